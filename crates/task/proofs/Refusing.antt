@@ -1,0 +1,108 @@
+-- What a list that is not refused is like: each of its numbers is within its limits, and the buffers have room.
+use mathlib.Core.Path.{_≡_, refl, sym, ap, _∙_}
+use mathlib.Core.List.{List, [], _∷_}
+use mathlib.Core.Bool.{Bool, true, false, _||_, true≢false}
+use Prim.Native.Nat.{ℕ, zero, suc, _+_, _≤_, _<_}
+use native.Mathlib.Numerals.{add-one}
+use native.Mathlib.Omega.{arith}
+use lib.Dec.{eqb, ltb}
+use lib.ListN.{length, take, drop, length-take, drop-of-length-le}
+use lib.Seq.{drop-cons, getD-take}
+use borrow.Author.Tests.{eqb-false, ltb-false}
+use Rattle.task.specs.declared.Task.{Task}
+use Rattle.task.specs.declared.refusal.Refusal.{Refusal}
+use Rattle.task.specs.declared.refusal.Check.{Check}
+use Rattle.task.specs.declared.refusal.Check.the-variants.{Sound, Refused}
+use Rattle.task.specs.Limits.{mostTasks, longestPeriod, latestOffset, longestHyperperiod}
+use Rattle.task.specs.Tasks.{nobody, task, latest, hyperperiod}
+use Rattle.task.specs.Refusals.{numberOf, Finding, sound, refused, findingOf, refusedIf, _then_, taskRefusal, tasksRefusal, firstRefusal}
+
+pub record Fine (τ : Task) : Type 0 where
+  pub live : 0 < τ .period
+  pub short : τ .period ≤ longestPeriod
+  pub runs : 0 < τ .run
+  pub fits : τ .run ≤ τ .deadline
+  pub within : τ .deadline ≤ τ .period
+  pub soon : τ .offset ≤ latestOffset
+
+not-sound : {n i : ℕ} → refused n i ≡ sound → ⊥
+not-sound e = let z : _≡_ {A = ℕ} 0 1 = cc in omega arith
+
+-- a check that finds nothing, and one after the other
+past : (b : Bool) (n i : ℕ) → refusedIf b n i ≡ sound → b ≡ false
+past true n i e = absurd (not-sound e)
+past false n i e = refl
+
+both : (f g : Finding) → (f then g) ≡ sound → (f ≡ sound) × (g ≡ sound)
+both sound g e = (refl, e)
+both (refused n i) g e = absurd (not-sound e)
+
+neither : (a b : Bool) → (a || b) ≡ false → (a ≡ false) × (b ≡ false)
+neither true b e = (e, absurd (true≢false e))
+neither false b e = (refl, e)
+
+task-fine : (i : ℕ) (τ : Task) → taskRefusal i τ ≡ sound → Fine τ
+task-fine i τ e =
+    let c₂ = both (refusedIf (eqb (τ .period) 0 || ltb longestPeriod (τ .period)) 2 i) _ e in
+    let c₃ = both (refusedIf (eqb (τ .run) 0 || ltb (τ .deadline) (τ .run)) 3 i) _ (c₂ .1) in
+    let c₄ = both (refusedIf (ltb (τ .period) (τ .deadline)) 4 i) _ (c₃ .1) in
+    let T = neither (eqb (τ .period) 0) (ltb longestPeriod (τ .period)) (past _ 2 i (c₂ .0)) in
+    let C = neither (eqb (τ .run) 0) (ltb (τ .deadline) (τ .run)) (past _ 3 i (c₃ .0)) in
+    record {
+      live = omega (arith, eqb-false (τ .period) 0 (T .0));
+      short = ltb-false _ _ (T .1);
+      runs = omega (arith, eqb-false (τ .run) 0 (C .0));
+      fits = ltb-false _ _ (C .1);
+      within = ltb-false _ _ (past _ 4 i (c₄ .0));
+      soon = ltb-false _ _ (past _ 5 i (c₄ .1));
+    }
+
+pub tasks-fine : (i : ℕ) (l : List Task) → tasksRefusal i l ≡ sound → (j : ℕ) → j < length l → Fine (task l j)
+tasks-fine i [] e j b = absurd (omega arith)
+tasks-fine i (τ ∷ l) e zero b = task-fine i τ (both (taskRefusal i τ) _ e .0)
+tasks-fine i (τ ∷ l) e (suc j) b = tasks-fine (suc i) l (both (taskRefusal i τ) _ e .1) j (omega arith)
+
+pub record Passed (l : List Task) (startup cycle : ℕ) : Type 0 where
+  pub some : 0 < length l
+  pub few : length l ≤ mostTasks
+  pub fine : (i : ℕ) → i < length l → Fine (task l i)
+  pub short : hyperperiod l ≤ longestHyperperiod
+  pub startup-fits : latest l + hyperperiod l ≤ startup
+  pub cycle-fits : hyperperiod l ≤ cycle
+
+pub passed : (l : List Task) (startup cycle : ℕ) → firstRefusal l startup cycle ≡ sound → Passed l startup cycle
+passed l startup cycle e =
+    let c₁ = both (refusedIf (eqb (length l) 0 || ltb mostTasks (length l)) 1 0) _ e in
+    let c₂ = both (tasksRefusal 0 l) _ (c₁ .1) in
+    let c₆ = both (refusedIf (ltb longestHyperperiod (hyperperiod l)) 6 0) _ (c₂ .1) in
+    let c₇ = both (refusedIf (ltb startup (latest l + hyperperiod l)) 7 0) _ (c₆ .1) in
+    let n = neither (eqb (length l) 0) (ltb mostTasks (length l)) (past _ 1 0 (c₁ .0)) in
+    record {
+      some = omega (arith, eqb-false (length l) 0 (n .0));
+      few = ltb-false _ _ (n .1);
+      fine = tasks-fine 0 l (c₂ .0);
+      short = ltb-false _ _ (past _ 6 0 (c₆ .0));
+      startup-fits = ltb-false _ _ (past _ 7 0 (c₇ .0));
+      cycle-fits = ltb-false _ _ (past _ 8 0 (c₇ .1));
+    }
+
+-- Task by task, over the first n tasks of an array: what is found at task i decides, or leaves the tasks after it.
+module _ (items : List Task) (n : ℕ) (room : n ≤ length items) where
+  abbrev listed : List Task
+  listed = take n items
+
+  tasks-next : (i : ℕ) → i < n → tasksRefusal i (drop i listed) ≡ (taskRefusal i (task items i) then tasksRefusal (suc i) (drop (suc i) listed))
+  tasks-next i b =
+      rw (drop-cons listed i nobody (omega (arith, length-take n items)), getD-take n items i nobody b)
+
+  module _ (i : ℕ) (b : i < n) (k : Check) (found : findingOf k ≡ taskRefusal i (task items i))
+      (so-far : tasksRefusal 0 listed ≡ tasksRefusal i (drop i listed)) where
+    pub refused-here : (r : Refusal) (j : ℕ) → k ≡ Refused r j → refused (numberOf r) j ≡ tasksRefusal 0 listed
+    refused-here r j e = sym (so-far ∙ tasks-next i b ∙ ap (λ f. f then tasksRefusal (suc i) (drop (suc i) listed)) (sym found ∙ ap findingOf e))
+
+    pub sound-here : k ≡ Sound → tasksRefusal 0 listed ≡ tasksRefusal (i + 1) (drop (i + 1) listed)
+    sound-here e =
+        rw add-one (so-far ∙ tasks-next i b ∙ ap (λ f. f then tasksRefusal (suc i) (drop (suc i) listed)) (sym found ∙ ap findingOf e))
+
+  pub sound-all : tasksRefusal 0 listed ≡ tasksRefusal n (drop n listed) → sound ≡ tasksRefusal 0 listed
+  sound-all e = sym (e ∙ ap (tasksRefusal n) (drop-of-length-le listed {i = n} (omega (arith, length-take n items))))

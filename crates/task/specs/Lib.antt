@@ -1,0 +1,5 @@
+pub mod Limits
+pub mod Divisors
+pub mod Tasks
+pub mod Refusals
+pub mod Admissions

@@ -1,0 +1,76 @@
+// What a task list says: the task kind, with its limits. Document 01, "What a task list says".
+pub mod admission;
+pub mod divisor;
+pub mod list;
+mod measure;
+pub mod refusal;
+
+ghost use mathlib.Core.Path.{_≡_};
+ghost use Rattle.task.specs.Limits.{mostTasks, longestPeriod, latestOffset, longestHyperperiod};
+ghost use Rattle.task.specs.Tasks.{taskOf};
+ghost use Rattle.task.specs.Refusals.{findingOf, taskRefusal};
+
+use refusal::Check;
+use refusal::Refusal;
+
+pub struct Task {
+    pub offset: usize,
+    pub run: usize,
+    pub deadline: usize,
+    pub period: usize,
+}
+
+impl Task {
+    pub const MOST: usize = 16;
+
+    pub const LONGEST_PERIOD: usize = 16384;
+
+    pub const LATEST_OFFSET: usize = 16384;
+
+    pub const LONGEST_HYPERPERIOD: usize = 16384;
+
+    // A task from the paper's four numbers, in the paper's order: O, C, D, T.
+    pub fn new(offset: usize, run: usize, deadline: usize, period: usize) -> Self
+        ensures { λ r. ⌜ r ≡ taskOf offset run deadline period ⌝ }
+    {
+        Self {
+            offset,
+            run,
+            deadline,
+            period,
+        }
+    }
+
+    // The first of refusals 2 to 5 that the task meets, as task `number` of its list.
+    pub fn check(self, number: usize) -> Check
+        ensures { λ r. ⌜ findingOf r ≡ taskRefusal number self ⌝ }
+    {
+        if self.period == 0 {
+            return Check::Refused(Refusal::Period, number);
+        }
+        if Task::LONGEST_PERIOD < self.period {
+            return Check::Refused(Refusal::Period, number);
+        }
+        if self.run == 0 {
+            return Check::Refused(Refusal::Run, number);
+        }
+        if self.deadline < self.run {
+            return Check::Refused(Refusal::Run, number);
+        }
+        if self.period < self.deadline {
+            return Check::Refused(Refusal::Deadline, number);
+        }
+        if Task::LATEST_OFFSET < self.offset {
+            return Check::Refused(Refusal::Offset, number);
+        }
+        Check::Sound
+    }
+
+    // Ties the limits to the numbers of specs/: a constant that differs has no proof.
+    fn limits()
+        ensures { λ _. do ⌜ (← ⟦Task::MOST⟧ .entry) ≡ mostTasks ⌝ }
+        ensures { λ _. do ⌜ (← ⟦Task::LONGEST_PERIOD⟧ .entry) ≡ longestPeriod ⌝ }
+        ensures { λ _. do ⌜ (← ⟦Task::LATEST_OFFSET⟧ .entry) ≡ latestOffset ⌝ }
+        ensures { λ _. do ⌜ (← ⟦Task::LONGEST_HYPERPERIOD⟧ .entry) ≡ longestHyperperiod ⌝ }
+    {}
+}
