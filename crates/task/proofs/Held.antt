@@ -1,7 +1,7 @@
 -- The lists that an array with a count holds: every array holds one, and with one task more it holds that list with the task at its end.
 use mathlib.Core.Path.{_≡_, sym, ap, _∙_}
 use mathlib.Core.List.{List, [], _∷_, _++_, append-nil}
-use Prim.Native.Nat.{ℕ, suc, _-_, _^_, _≤_, _<_, min}
+use Prim.Native.Nat.{suc, _-_, _^_, _≤_, _<_, min}
 use native.Mathlib.Decide.{decLt}
 use native.Mathlib.Omega.{arith}
 use lib.ListN.{length, take, set, replicate, length-append, length-take, length-replicate}

@@ -6,13 +6,11 @@ use native.Mathlib.Nat.{div-mul-cancel, dvd-refl, dvd-trans, dvd-antisymm, one-d
 use native.Mathlib.Numerals.{add-one}
 use native.Mathlib.Omega.{arith}
 use lib.ListN.{length, take, drop, length-take, length-drop, take-append-drop}
-use lib.Seq.{take-suc, take-take, getD-take, getD-drop}
+use lib.Seq.{take-suc, getD-take, getD-drop}
 use Rattle.task.specs.declared.Task.{Task}
-use Rattle.task.specs.declared.divisor.Multiple.{Multiple}
-use Rattle.task.specs.declared.divisor.Multiple.the-variants.{Of, Above}
 use Rattle.task.specs.Tasks.{nobody, task, IsHyperperiod, hyperperiodOn, hyperperiod, turns}
-use Rattle.task.specs.Divisors.{lcm, within}
-use Rattle.task.proofs.Divisors.{lcm-is, lcm-some, within-above, is-of, is-above}
+use Rattle.divisor.specs.Divisors.{lcm}
+use Rattle.divisor.proofs.Divisors.{lcm-is, lcm-some}
 
 -- H is the least common multiple of h and the periods of a list
 record Least (h : ℕ) (l : List Task) (H : ℕ) : Type 0 where
@@ -81,27 +79,3 @@ module _ (l : List Task) (live : (i : ℕ) → i < length l → 0 < task l i .pe
 -- there is one least common multiple
 pub hyperperiod-once : {l : List Task} {H G : ℕ} → IsHyperperiod l H → IsHyperperiod l G → H ≡ G
 hyperperiod-once {l} {H} {G} x y = dvd-antisymm (x .least G (y .divided)) (y .least H (x .divided))
-
--- The fold over the first n tasks of an array, stopped at a limit: h is what the first i periods give, and k what period i makes of it.
-module _ (items : List Task) (n most i h : ℕ) (room : n ≤ length items) (b : i < n) (so-far : h ≡ hyperperiod (take i items))
-    (k : Multiple) (is : k ≡ within most (lcm h (task items i .period))) where
-  next : lcm h (task items i .period) ≡ hyperperiod (take (i + 1) items)
-  next = ap (λ x. lcm x (task items i .period)) so-far ∙ sym (hyperperiod-next items i (omega arith))
-
-  pub goes-on : (m : ℕ) → k ≡ Of m → (m ≤ most) × (m ≡ hyperperiod (take (i + 1) items))
-  goes-on m e =
-      let o = is-of most (lcm h (task items i .period)) m (sym is ∙ e) in
-      (omega (arith, o .0, o .1), o .1 ∙ next)
-
-  pub ends-early : ((j : ℕ) → j < n → 0 < task items j .period) → k ≡ Above → Above ≡ within most (hyperperiod (take n items))
-  ends-early live e = sym (within-above over)
-    where
-      grown : hyperperiod (take (i + 1) items) ≤ hyperperiod (take n items)
-      grown =
-          rw (take-take (i + 1) n items (omega arith)) at
-          (hyperperiod-grows (take n items)
-          (λ j q. let r : j < n = omega (arith, length-take n items) in rw (getD-take n items j nobody r) (live j r))
-          (i + 1) (omega (arith, length-take n items)))
-
-      over : most < hyperperiod (take n items)
-      over = omega (arith, is-above most (lcm h (task items i .period)) (sym is ∙ e), next, grown)

@@ -1,8 +1,4 @@
-pub mod Divisors
-pub mod Hyperperiods
 pub mod Offsets
+pub mod Hyperperiods
 pub mod Refusing
-pub mod Loads
-pub mod Admitting
 pub mod Held
-pub mod Pinned

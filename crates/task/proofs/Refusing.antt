@@ -1,21 +1,17 @@
 -- What a list that is not refused is like: each of its numbers is within its limits, and the buffers have room.
-use mathlib.Core.Path.{_≡_, refl, sym, ap, _∙_}
+use mathlib.Core.Path.{_≡_, refl}
 use mathlib.Core.List.{List, [], _∷_}
 use mathlib.Core.Bool.{Bool, true, false, _||_, true≢false}
 use Prim.Native.Nat.{ℕ, zero, suc, _+_, _≤_, _<_}
-use native.Mathlib.Numerals.{add-one}
 use native.Mathlib.Omega.{arith}
 use lib.Dec.{eqb, ltb}
-use lib.ListN.{length, take, drop, length-take, drop-of-length-le}
-use lib.Seq.{drop-cons, getD-take}
+use lib.ListN.{length}
 use borrow.Author.Tests.{eqb-false, ltb-false}
 use Rattle.task.specs.declared.Task.{Task}
-use Rattle.task.specs.declared.refusal.Refusal.{Refusal}
-use Rattle.task.specs.declared.refusal.Check.{Check}
-use Rattle.task.specs.declared.refusal.Check.the-variants.{Sound, Refused}
 use Rattle.task.specs.Limits.{mostTasks, longestPeriod, latestOffset, longestHyperperiod}
-use Rattle.task.specs.Tasks.{nobody, task, latest, hyperperiod}
-use Rattle.task.specs.Refusals.{numberOf, Finding, sound, refused, findingOf, refusedIf, _then_, taskRefusal, tasksRefusal, firstRefusal}
+use Rattle.task.specs.Tasks.{task, latest, hyperperiod}
+use Rattle.refusal.specs.Refusals.{Finding, sound, refused, refusedIf, _then_}
+use Rattle.task.specs.Checks.{taskRefusal, tasksRefusal, firstRefusal}
 
 pub record Fine (τ : Task) : Type 0 where
   pub live : 0 < τ .period
@@ -85,24 +81,3 @@ passed l startup cycle e =
       startup-fits = ltb-false _ _ (past _ 7 0 (c₇ .0));
       cycle-fits = ltb-false _ _ (past _ 8 0 (c₇ .1));
     }
-
--- Task by task, over the first n tasks of an array: what is found at task i decides, or leaves the tasks after it.
-module _ (items : List Task) (n : ℕ) (room : n ≤ length items) where
-  abbrev listed : List Task
-  listed = take n items
-
-  tasks-next : (i : ℕ) → i < n → tasksRefusal i (drop i listed) ≡ (taskRefusal i (task items i) then tasksRefusal (suc i) (drop (suc i) listed))
-  tasks-next i b =
-      rw (drop-cons listed i nobody (omega (arith, length-take n items)), getD-take n items i nobody b)
-
-  module _ (i : ℕ) (b : i < n) (k : Check) (found : findingOf k ≡ taskRefusal i (task items i))
-      (so-far : tasksRefusal 0 listed ≡ tasksRefusal i (drop i listed)) where
-    pub refused-here : (r : Refusal) (j : ℕ) → k ≡ Refused r j → refused (numberOf r) j ≡ tasksRefusal 0 listed
-    refused-here r j e = sym (so-far ∙ tasks-next i b ∙ ap (λ f. f then tasksRefusal (suc i) (drop (suc i) listed)) (sym found ∙ ap findingOf e))
-
-    pub sound-here : k ≡ Sound → tasksRefusal 0 listed ≡ tasksRefusal (i + 1) (drop (i + 1) listed)
-    sound-here e =
-        rw add-one (so-far ∙ tasks-next i b ∙ ap (λ f. f then tasksRefusal (suc i) (drop (suc i) listed)) (sym found ∙ ap findingOf e))
-
-  pub sound-all : tasksRefusal 0 listed ≡ tasksRefusal n (drop n listed) → sound ≡ tasksRefusal 0 listed
-  sound-all e = sym (e ∙ ap (tasksRefusal n) (drop-of-length-le listed {i = n} (omega (arith, length-take n items))))

@@ -6,7 +6,7 @@ use lib.ListN.{length, getD, take, set}
 use Rattle.task.specs.declared.Task.{Task}
 use Rattle.task.specs.declared.list.Tasks.{Tasks}
 use Rattle.task.specs.Limits.{mostTasks}
-use Rattle.task.specs.Divisors.{lcm}
+use Rattle.divisor.specs.Divisors.{lcm}
 
 -- offset O, run time C, deadline D, period T
 abbrev pub taskOf : ℕ → ℕ → ℕ → ℕ → Task

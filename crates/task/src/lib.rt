@@ -1,15 +1,11 @@
 // What a task list says: the task kind, with its limits. Document 01, "What a task list says".
-pub mod admission;
-pub mod divisor;
 pub mod list;
-mod measure;
-pub mod refusal;
 
 ghost use mathlib.Core.Path.{_≡_};
 ghost use Rattle.task.specs.Limits.{mostTasks, longestPeriod, latestOffset, longestHyperperiod};
 ghost use Rattle.task.specs.Tasks.{taskOf};
-ghost use Rattle.task.specs.Refusals.{findingOf, taskRefusal};
-
+ghost use Rattle.refusal.specs.Refusals.{findingOf};
+ghost use Rattle.task.specs.Checks.{taskRefusal};
 use refusal::Check;
 use refusal::Refusal;
 

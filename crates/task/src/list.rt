@@ -3,7 +3,6 @@ ghost use mathlib.Core.Path.{_≡_};
 ghost use mathlib.Core.List.{[]};
 ghost use lib.ListN.{set};
 ghost use Rattle.task.specs.Tasks.{Holds, added};
-
 use crate::Task;
 
 // The count is the list's true length, also where that is more than the array holds.

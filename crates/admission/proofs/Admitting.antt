@@ -1,0 +1,62 @@
+-- The first refusal of a list, check by check, in the paper's order.
+use mathlib.Core.Path.{_≡_}
+use mathlib.Core.List.{List}
+use Prim.Native.Nat.{ℕ, _+_, _≤_, _<_}
+use native.Mathlib.Omega.{arith}
+use lib.ListN.{length}
+use borrow.Author.Tests.{eq-eqb, ne-eqb, lt-ltb, le-ltb}
+use Rattle.task.specs.declared.Task.{Task}
+use Rattle.task.specs.Limits.{mostTasks, longestHyperperiod}
+use Rattle.task.specs.Tasks.{latest, hyperperiod}
+use Rattle.refusal.specs.Refusals.{sound, refused}
+use Rattle.task.specs.Checks.{tasksRefusal, firstRefusal}
+
+module _ (l : List Task) (startup cycle : ℕ) where
+  pub none-refused : length l ≡ 0 → firstRefusal l startup cycle ≡ refused 1 0
+  none-refused h = rw (eq-eqb (length l) 0 h)
+
+  pub many-refused : mostTasks < length l → firstRefusal l startup cycle ≡ refused 1 0
+  many-refused h = rw (ne-eqb (length l) 0 (omega arith), lt-ltb mostTasks (length l) h)
+
+  module _ (some : 0 < length l) (few : length l ≤ mostTasks) where
+    pub task-refused : (n i : ℕ) → tasksRefusal 0 l ≡ refused n i → firstRefusal l startup cycle ≡ refused n i
+    task-refused n i e = rw (ne-eqb (length l) 0 (omega arith), le-ltb mostTasks (length l) few, e)
+
+    module _ (ok : tasksRefusal 0 l ≡ sound) where
+      pub hyperperiod-refused : longestHyperperiod < hyperperiod l → firstRefusal l startup cycle ≡ refused 6 0
+      hyperperiod-refused h =
+          rw (ne-eqb (length l) 0 (omega arith), le-ltb mostTasks (length l) few, ok, lt-ltb longestHyperperiod (hyperperiod l) h)
+
+      module _ (short : hyperperiod l ≤ longestHyperperiod) where
+        pub startup-refused : startup < latest l + hyperperiod l → firstRefusal l startup cycle ≡ refused 7 0
+        startup-refused h =
+            rw (
+              ne-eqb (length l) 0 (omega arith),
+              le-ltb mostTasks (length l) few,
+              ok,
+              le-ltb longestHyperperiod (hyperperiod l) short,
+              lt-ltb startup (latest l + hyperperiod l) h,
+            )
+
+        module _ (room : latest l + hyperperiod l ≤ startup) where
+          pub cycle-refused : cycle < hyperperiod l → firstRefusal l startup cycle ≡ refused 8 0
+          cycle-refused h =
+              rw (
+                ne-eqb (length l) 0 (omega arith),
+                le-ltb mostTasks (length l) few,
+                ok,
+                le-ltb longestHyperperiod (hyperperiod l) short,
+                le-ltb startup (latest l + hyperperiod l) room,
+                lt-ltb cycle (hyperperiod l) h,
+              )
+
+          pub not-refused : hyperperiod l ≤ cycle → firstRefusal l startup cycle ≡ sound
+          not-refused h =
+              rw (
+                ne-eqb (length l) 0 (omega arith),
+                le-ltb mostTasks (length l) few,
+                ok,
+                le-ltb longestHyperperiod (hyperperiod l) short,
+                le-ltb startup (latest l + hyperperiod l) room,
+                le-ltb cycle (hyperperiod l) h,
+              )

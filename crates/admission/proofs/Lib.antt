@@ -1,0 +1,3 @@
+pub mod Listed
+pub mod Admitting
+pub mod Pinned

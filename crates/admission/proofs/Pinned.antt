@@ -1,0 +1,21 @@
+-- The promise of `admit` leaves one answer: any two that are permitted are equal.
+use mathlib.Core.Path.{_≡_, sym, ap, ap₂, _∙_}
+use mathlib.Core.List.{List}
+use Prim.Native.Nat.{ℕ}
+use native.Mathlib.Omega.{arith}
+use Rattle.task.specs.declared.Task.{Task}
+use Rattle.refusal.specs.Refusals.{numberOf, refused}
+use Rattle.refusal.proofs.Pinned.{number-once}
+use Rattle.admission.specs.declared.Admission.{Admission}
+use Rattle.admission.specs.declared.Admission.the-variants.{Refused, Sound}
+use Rattle.admission.specs.Admissions.{Admits}
+
+pub admits-once : (l : List Task) (startup cycle : ℕ) (a a′ : Admission) → Admits l startup cycle a → Admits l startup cycle a′ → a ≡ a′
+admits-once l startup cycle (Refused r i) (Refused s j) x y =
+    let e : refused (numberOf r) i ≡ refused (numberOf s) j = sym x ∙ y in
+    ap₂ Refused (number-once r s (cc)) (cc)
+admits-once l startup cycle (Refused r i) (Sound m) x y =
+    let z : _≡_ {A = ℕ} 0 1 = cc (x, y .no-refusal) in absurd (omega arith)
+admits-once l startup cycle (Sound m) (Refused r i) x y =
+    let z : _≡_ {A = ℕ} 0 1 = cc (y, x .no-refusal) in absurd (omega arith)
+admits-once l startup cycle (Sound m) (Sound k) x y = ap Sound (x .measured ∙ sym (y .measured))
