@@ -8,14 +8,15 @@ use borrow.Author.Tests.{eq-eqb, ne-eqb, lt-ltb, le-ltb}
 use Rattle.task.specs.declared.Task.{Task}
 use Rattle.task.specs.Limits.{mostTasks, longestHyperperiod}
 use Rattle.task.specs.Tasks.{latest, hyperperiod}
-use Rattle.refusal.specs.Refusals.{sound, refused}
+use Rattle.refusal.specs.declared.Refusal.the-variants.{Count, Hyperperiod, Startup, Cycle}
+use Rattle.refusal.specs.Refusals.{numberOf, sound, refused}
 use Rattle.task.specs.Checks.{tasksRefusal, firstRefusal}
 
 module _ (l : List Task) (startup cycle : ℕ) where
-  pub none-refused : length l ≡ 0 → firstRefusal l startup cycle ≡ refused 1 0
+  pub none-refused : length l ≡ 0 → firstRefusal l startup cycle ≡ refused (numberOf Count) 0
   none-refused h = rw (eq-eqb (length l) 0 h)
 
-  pub many-refused : mostTasks < length l → firstRefusal l startup cycle ≡ refused 1 0
+  pub many-refused : mostTasks < length l → firstRefusal l startup cycle ≡ refused (numberOf Count) 0
   many-refused h = rw (ne-eqb (length l) 0 (omega arith), lt-ltb mostTasks (length l) h)
 
   module _ (some : 0 < length l) (few : length l ≤ mostTasks) where
@@ -23,12 +24,12 @@ module _ (l : List Task) (startup cycle : ℕ) where
     task-refused n i e = rw (ne-eqb (length l) 0 (omega arith), le-ltb mostTasks (length l) few, e)
 
     module _ (ok : tasksRefusal 0 l ≡ sound) where
-      pub hyperperiod-refused : longestHyperperiod < hyperperiod l → firstRefusal l startup cycle ≡ refused 6 0
+      pub hyperperiod-refused : longestHyperperiod < hyperperiod l → firstRefusal l startup cycle ≡ refused (numberOf Hyperperiod) 0
       hyperperiod-refused h =
           rw (ne-eqb (length l) 0 (omega arith), le-ltb mostTasks (length l) few, ok, lt-ltb longestHyperperiod (hyperperiod l) h)
 
       module _ (short : hyperperiod l ≤ longestHyperperiod) where
-        pub startup-refused : startup < latest l + hyperperiod l → firstRefusal l startup cycle ≡ refused 7 0
+        pub startup-refused : startup < latest l + hyperperiod l → firstRefusal l startup cycle ≡ refused (numberOf Startup) 0
         startup-refused h =
             rw (
               ne-eqb (length l) 0 (omega arith),
@@ -39,7 +40,7 @@ module _ (l : List Task) (startup cycle : ℕ) where
             )
 
         module _ (room : latest l + hyperperiod l ≤ startup) where
-          pub cycle-refused : cycle < hyperperiod l → firstRefusal l startup cycle ≡ refused 8 0
+          pub cycle-refused : cycle < hyperperiod l → firstRefusal l startup cycle ≡ refused (numberOf Cycle) 0
           cycle-refused h =
               rw (
                 ne-eqb (length l) 0 (omega arith),

@@ -4,263 +4,31 @@ use libc::STDOUT_FILENO;
 use task::Task;
 use task::list::Tasks;
 
-// A row: how many tasks, O C D T of the first and of each other one, and the lengths of the startup and the cycle buffer.
-const WIDTH: usize = 11;
-
-const LONG: usize = usize::MAX;
-
-const TABLE: [usize; 242] = [
-    1,
-    0,
-    1,
-    1,
-    16384,
-    0,
-    0,
-    0,
-    0,
-    LONG,
-    LONG, // T 16,384 alone
-    1,
-    0,
-    1,
-    1,
-    16385,
-    0,
-    0,
-    0,
-    0,
-    LONG,
-    LONG, // T 16,385
-    1,
-    0,
-    1,
-    1,
-    0,
-    0,
-    0,
-    0,
-    0,
-    LONG,
-    LONG, // T 0
-    2,
-    0,
-    1,
-    127,
-    127,
-    0,
-    1,
-    129,
-    129,
-    LONG,
-    LONG, // periods 127 and 129
-    2,
-    0,
-    1,
-    128,
-    128,
-    0,
-    1,
-    129,
-    129,
-    LONG,
-    LONG, // periods 128 and 129
-    1,
-    16384,
-    1,
-    1,
-    1,
-    0,
-    0,
-    0,
-    0,
-    LONG,
-    LONG, // O 16,384
-    1,
-    16385,
-    1,
-    1,
-    1,
-    0,
-    0,
-    0,
-    0,
-    LONG,
-    LONG, // O 16,385
-    1,
-    0,
-    0,
-    1,
-    1,
-    0,
-    0,
-    0,
-    0,
-    LONG,
-    LONG, // C 0
-    1,
-    0,
-    6,
-    5,
-    4,
-    0,
-    0,
-    0,
-    0,
-    LONG,
-    LONG, // C above D, and D above T
-    1,
-    0,
-    2,
-    5,
-    4,
-    0,
-    0,
-    0,
-    0,
-    LONG,
-    LONG, // D above T
-    1,
-    16385,
-    0,
-    1,
-    0,
-    0,
-    0,
-    0,
-    0,
-    LONG,
-    LONG, // nothing is right: the first refusal
-    1,
-    LONG,
-    LONG,
-    LONG,
-    LONG,
-    0,
-    0,
-    0,
-    0,
-    LONG,
-    LONG, // the largest numbers
-    2,
-    0,
-    1,
-    1,
-    1,
-    0,
-    0,
-    1,
-    1,
-    LONG,
-    LONG, // task 1 is refused
-    2,
-    16385,
-    1,
-    1,
-    1,
-    0,
-    1,
-    1,
-    0,
-    LONG,
-    LONG, // task by task: 5 of task 0 before 2 of task 1
-    0,
-    0,
-    0,
-    0,
-    0,
-    0,
-    0,
-    0,
-    0,
-    LONG,
-    LONG, // no task
-    16,
-    0,
-    1,
-    1,
-    1,
-    0,
-    1,
-    1,
-    1,
-    LONG,
-    LONG, // sixteen tasks
-    17,
-    0,
-    1,
-    1,
-    1,
-    0,
-    1,
-    1,
-    1,
-    LONG,
-    LONG, // seventeen tasks
-    17,
-    0,
-    0,
-    0,
-    0,
-    0,
-    0,
-    0,
-    0,
-    LONG,
-    LONG, // whatever they hold
-    2,
-    0,
-    2,
-    4,
-    4,
-    1,
-    1,
-    2,
-    4,
-    5,
-    4, // list b
-    2,
-    0,
-    2,
-    4,
-    4,
-    1,
-    1,
-    2,
-    4,
-    4,
-    4, // with startup length 4
-    2,
-    0,
-    2,
-    4,
-    4,
-    1,
-    1,
-    2,
-    4,
-    5,
-    3, // with cycle length 3
-    2,
-    0,
-    2,
-    4,
-    4,
-    1,
-    1,
-    2,
-    4,
-    4,
-    3, // with both
-];
-
-fn value(x: usize) {
-    io::write_all(STDOUT_FILENO, b" ");
+fn number(x: usize) {
     io::print_decimal(STDOUT_FILENO, x as u64);
 }
 
-// `sound M H L`, or `refused number task`.
-fn say(said: Admission) {
+fn value(x: usize) {
+    io::write_all(STDOUT_FILENO, b" ");
+    number(x);
+}
+
+// The task, as the paper writes it: (O,C,D,T).
+fn show(task: Task) {
+    io::write_all(STDOUT_FILENO, b"(");
+    number(task.offset);
+    io::write_all(STDOUT_FILENO, b",");
+    number(task.run);
+    io::write_all(STDOUT_FILENO, b",");
+    number(task.deadline);
+    io::write_all(STDOUT_FILENO, b",");
+    number(task.period);
+    io::write_all(STDOUT_FILENO, b") ");
+}
+
+// What is said of the list and two buffer lengths: `sound M H L` or `refused number task`.
+fn say(list: Tasks, startup: usize, cycle: usize) {
+    let said = admission::admit(list, startup, cycle);
     match said {
         Admission::Refused(why, task) => {
             io::write_all(STDOUT_FILENO, b"refused");
@@ -277,25 +45,73 @@ fn say(said: Admission) {
     io::write_all(STDOUT_FILENO, b"\n");
 }
 
-// A task once, and another until there are n.
-fn listed(n: usize, first: Task, other: Task) -> Tasks {
-    if n == 0 {
-        return Tasks::none();
+// One task n times, in buffers that are long enough.
+fn times(n: usize, task: Task) {
+    number(n);
+    io::write_all(STDOUT_FILENO, b" times ");
+    show(task);
+    let mut list = Tasks::none();
+    for _ in 0..n {
+        list = list.with(task);
     }
-    let mut list = Tasks::none().with(first);
-    for _ in 1..n {
-        list = list.with(other);
-    }
-    list
+    say(list, usize::MAX, usize::MAX);
+}
+
+fn one(offset: usize, run: usize, deadline: usize, period: usize) {
+    times(1, Task::new(offset, run, deadline, period));
+}
+
+fn two(first: Task, second: Task, startup: usize, cycle: usize) {
+    show(first);
+    show(second);
+    say(Tasks::none().with(first).with(second), startup, cycle);
+}
+
+fn periods(first: usize, second: usize) {
+    two(
+        Task::new(0, 1, first, first),
+        Task::new(0, 1, second, second),
+        usize::MAX,
+        usize::MAX,
+    );
+}
+
+// List b in buffers of these lengths.
+fn list_b(startup: usize, cycle: usize) {
+    number(startup);
+    value(cycle);
+    io::write_all(STDOUT_FILENO, b" for ");
+    two(Task::new(0, 2, 4, 4), Task::new(1, 1, 2, 4), startup, cycle);
+}
+
+fn single_tasks() {
+    one(0, 1, 1, 16384);
+    one(0, 1, 1, 16385);
+    one(0, 1, 1, 0);
+    one(16384, 1, 1, 1);
+    one(16385, 1, 1, 1);
+    one(0, 0, 1, 1);
+    one(0, 6, 5, 4);
+    one(0, 2, 5, 4);
+    one(16385, 0, 1, 0);
+    one(usize::MAX, usize::MAX, usize::MAX, usize::MAX);
+}
+
+fn lists() {
+    periods(127, 129);
+    periods(128, 129);
+    periods(1, 0);
+    times(0, Task::new(0, 1, 1, 1));
+    times(16, Task::new(0, 1, 1, 1));
+    times(17, Task::new(0, 1, 1, 1));
+    times(17, Task::new(0, 0, 0, 0));
 }
 
 fn main() {
-    let mut at = 0;
-    while at + WIDTH <= TABLE.len() {
-        let first = Task::new(TABLE[at + 1], TABLE[at + 2], TABLE[at + 3], TABLE[at + 4]);
-        let other = Task::new(TABLE[at + 5], TABLE[at + 6], TABLE[at + 7], TABLE[at + 8]);
-        let list = listed(TABLE[at], first, other);
-        say(admission::admit(list, TABLE[at + 9], TABLE[at + 10]));
-        at += WIDTH;
-    }
+    single_tasks();
+    lists();
+    list_b(5, 4);
+    list_b(4, 4);
+    list_b(5, 3);
+    list_b(4, 3);
 }

@@ -27,9 +27,9 @@ abbrev pub findingOf : Check → Finding
 findingOf Sound = sound
 findingOf (Refused r i) = refused (numberOf r) i
 
-abbrev pub refusedIf : Bool → ℕ → ℕ → Finding
-refusedIf true number i = refused number i
-refusedIf false number i = sound
+abbrev pub refusedIf : Bool → Refusal → ℕ → Finding
+refusedIf true r i = refused (numberOf r) i
+refusedIf false r i = sound
 
 -- the first that applies is given
 abbrev pub _then_ : Finding → Finding → Finding

@@ -1,5 +1,5 @@
 -- The lists that an array with a count holds: every array holds one, and with one task more it holds that list with the task at its end.
-use mathlib.Core.Path.{_≡_, sym, ap, _∙_}
+use mathlib.Core.Path.{_≡_, refl, sym, ap, _∙_}
 use mathlib.Core.List.{List, [], _∷_, _++_, append-nil}
 use Prim.Native.Nat.{suc, _-_, _^_, _≤_, _<_, min}
 use native.Mathlib.Decide.{decLt}
@@ -9,7 +9,10 @@ use lib.Seq.{take-all, take-at, take-suc-set, take-append-le, set-out}
 use Rattle.task.specs.declared.Task.{Task}
 use Rattle.task.specs.declared.list.Tasks.{Tasks}
 use Rattle.task.specs.Limits.{mostTasks}
-use Rattle.task.specs.Tasks.{nobody, Holds, added}
+use Rattle.task.specs.Tasks.{nobody, Holds, empty, added}
+
+pub held-none : Holds empty []
+held-none = record { counted = refl; begins = refl }
 
 module _ (ts : Tasks) (full : length (ts .items) ≡ mostTasks) where
   abbrev first : List Task

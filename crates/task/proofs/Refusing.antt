@@ -4,12 +4,13 @@ use mathlib.Core.List.{List, [], _∷_}
 use mathlib.Core.Bool.{Bool, true, false, _||_, true≢false}
 use Prim.Native.Nat.{ℕ, zero, suc, _+_, _≤_, _<_}
 use native.Mathlib.Omega.{arith}
-use lib.Dec.{eqb, ltb}
 use lib.ListN.{length}
 use borrow.Author.Tests.{eqb-false, ltb-false}
 use Rattle.task.specs.declared.Task.{Task}
 use Rattle.task.specs.Limits.{mostTasks, longestPeriod, latestOffset, longestHyperperiod}
 use Rattle.task.specs.Tasks.{task, latest, hyperperiod}
+use Rattle.refusal.specs.declared.Refusal.{Refusal}
+use Rattle.refusal.specs.declared.Refusal.the-variants.{Count, Period, Run, Deadline, Offset, Hyperperiod, Startup, Cycle}
 use Rattle.refusal.specs.Refusals.{Finding, sound, refused, refusedIf, _then_}
 use Rattle.task.specs.Checks.{taskRefusal, tasksRefusal, firstRefusal}
 
@@ -25,9 +26,9 @@ not-sound : {n i : ℕ} → refused n i ≡ sound → ⊥
 not-sound e = let z : _≡_ {A = ℕ} 0 1 = cc in omega arith
 
 -- a check that finds nothing, and one after the other
-past : (b : Bool) (n i : ℕ) → refusedIf b n i ≡ sound → b ≡ false
-past true n i e = absurd (not-sound e)
-past false n i e = refl
+past : (b : Bool) (r : Refusal) (i : ℕ) → refusedIf b r i ≡ sound → b ≡ false
+past true r i e = absurd (not-sound e)
+past false r i e = refl
 
 both : (f g : Finding) → (f then g) ≡ sound → (f ≡ sound) × (g ≡ sound)
 both sound g e = (refl, e)
@@ -39,18 +40,18 @@ neither false b e = (refl, e)
 
 task-fine : (i : ℕ) (τ : Task) → taskRefusal i τ ≡ sound → Fine τ
 task-fine i τ e =
-    let c₂ = both (refusedIf (eqb (τ .period) 0 || ltb longestPeriod (τ .period)) 2 i) _ e in
-    let c₃ = both (refusedIf (eqb (τ .run) 0 || ltb (τ .deadline) (τ .run)) 3 i) _ (c₂ .1) in
-    let c₄ = both (refusedIf (ltb (τ .period) (τ .deadline)) 4 i) _ (c₃ .1) in
-    let T = neither (eqb (τ .period) 0) (ltb longestPeriod (τ .period)) (past _ 2 i (c₂ .0)) in
-    let C = neither (eqb (τ .run) 0) (ltb (τ .deadline) (τ .run)) (past _ 3 i (c₃ .0)) in
+    let c₂ = both _ _ e in
+    let c₃ = both _ _ (c₂ .1) in
+    let c₄ = both _ _ (c₃ .1) in
+    let T = neither _ _ (past _ Period i (c₂ .0)) in
+    let C = neither _ _ (past _ Run i (c₃ .0)) in
     record {
       live = omega (arith, eqb-false (τ .period) 0 (T .0));
       short = ltb-false _ _ (T .1);
       runs = omega (arith, eqb-false (τ .run) 0 (C .0));
       fits = ltb-false _ _ (C .1);
-      within = ltb-false _ _ (past _ 4 i (c₄ .0));
-      soon = ltb-false _ _ (past _ 5 i (c₄ .1));
+      within = ltb-false _ _ (past _ Deadline i (c₄ .0));
+      soon = ltb-false _ _ (past _ Offset i (c₄ .1));
     }
 
 pub tasks-fine : (i : ℕ) (l : List Task) → tasksRefusal i l ≡ sound → (j : ℕ) → j < length l → Fine (task l j)
@@ -68,16 +69,16 @@ pub record Passed (l : List Task) (startup cycle : ℕ) : Type 0 where
 
 pub passed : (l : List Task) (startup cycle : ℕ) → firstRefusal l startup cycle ≡ sound → Passed l startup cycle
 passed l startup cycle e =
-    let c₁ = both (refusedIf (eqb (length l) 0 || ltb mostTasks (length l)) 1 0) _ e in
-    let c₂ = both (tasksRefusal 0 l) _ (c₁ .1) in
-    let c₆ = both (refusedIf (ltb longestHyperperiod (hyperperiod l)) 6 0) _ (c₂ .1) in
-    let c₇ = both (refusedIf (ltb startup (latest l + hyperperiod l)) 7 0) _ (c₆ .1) in
-    let n = neither (eqb (length l) 0) (ltb mostTasks (length l)) (past _ 1 0 (c₁ .0)) in
+    let c₁ = both _ _ e in
+    let c₂ = both _ _ (c₁ .1) in
+    let c₆ = both _ _ (c₂ .1) in
+    let c₇ = both _ _ (c₆ .1) in
+    let n = neither _ _ (past _ Count 0 (c₁ .0)) in
     record {
       some = omega (arith, eqb-false (length l) 0 (n .0));
       few = ltb-false _ _ (n .1);
       fine = tasks-fine 0 l (c₂ .0);
-      short = ltb-false _ _ (past _ 6 0 (c₆ .0));
-      startup-fits = ltb-false _ _ (past _ 7 0 (c₇ .0));
-      cycle-fits = ltb-false _ _ (past _ 8 0 (c₇ .1));
+      short = ltb-false _ _ (past _ Hyperperiod 0 (c₆ .0));
+      startup-fits = ltb-false _ _ (past _ Startup 0 (c₇ .0));
+      cycle-fits = ltb-false _ _ (past _ Cycle 0 (c₇ .1));
     }

@@ -2,7 +2,7 @@
 use mathlib.Core.Path.{_≡_}
 use mathlib.Core.List.{List, [], _∷_}
 use Prim.Native.Nat.{ℕ, zero, suc, _+_, _*_, _/_, _<_, _∣_, _^_, _-_, min, max}
-use lib.ListN.{length, getD, take, set}
+use lib.ListN.{length, getD, take, set, replicate}
 use Rattle.task.specs.declared.Task.{Task}
 use Rattle.task.specs.declared.list.Tasks.{Tasks}
 use Rattle.task.specs.Limits.{mostTasks}
@@ -62,6 +62,10 @@ pub record Holds (ts : Tasks) (l : List Task) : Type 0 where
   pub counted : ts .count ≡ length l
   pub begins : take (ts .count) (ts .items) ≡ take mostTasks l
 
--- one task more, in its place if the array has one; a count that fits no number stays
+-- the array that holds the list of no tasks
+abbrev pub empty : Tasks
+empty = record { items = replicate mostTasks nobody; count = 0 }
+
+-- one task more, in its place if the array has one; the largest count that there is stays
 abbrev pub added : Tasks → Task → Tasks
 added ts τ = record { items = set (ts .items) (ts .count) τ; count = min (suc (ts .count)) (2 ^ 64 - 1) }

@@ -1,8 +1,7 @@
 // Our own array of tasks, with a count. Document 01, "What a task list says".
 ghost use mathlib.Core.Path.{_≡_};
-ghost use mathlib.Core.List.{[]};
 ghost use lib.ListN.{set};
-ghost use Rattle.task.specs.Tasks.{Holds, added};
+ghost use Rattle.task.specs.Tasks.{empty, added};
 use crate::Task;
 
 // The count is the list's true length, also where that is more than the array holds.
@@ -14,7 +13,7 @@ pub struct Tasks {
 impl Tasks {
     // The list of no tasks.
     pub fn none() -> Self
-        ensures { λ r. ⌜ Holds r [] ⌝ }
+        ensures { λ r. ⌜ r ≡ empty ⌝ }
     {
         let blank = Task::new(0, 0, 0, 0);
         let items = [blank; Task::MOST];

@@ -1,10 +1,16 @@
 -- `by_room` meets its contract: no offset is so late that M + H wraps.
 use mathlib.Core.Path.{_≡_, refl}
-use Prim.Native.Nat.{_≤_}
+use mathlib.Core.List.{List}
+use Prim.Native.Nat.{ℕ, _≤_}
 use native.Mathlib.Omega.{arith}
 use borrow.Author.Needs.{needs}
 use lib.ListN.{length, take}
 use lib.Seq.{length-take-le}
+use Rattle.refusal.specs.Refusals.{sound}
+use Rattle.task.specs.declared.Task.{Task}
+use Rattle.task.specs.Checks.{firstRefusal}
+use Rattle.admission.specs.declared.Measures.{Measures}
+use Rattle.admission.specs.Admissions.{measuresOf, IsSound}
 use Rattle.task.specs.Limits.{latestOffset}
 use Rattle.task.specs.Tasks.{latest, hyperperiod, load}
 use Rattle.task.proofs.Refusing.{tasks-fine}
@@ -42,6 +48,11 @@ returns-2 c =
 load-requires : tie.Need-load-requires
 load-requires c κs = search needs
 
+-- a list with no refusal, and its measures
+admitted : (l : List Task) (startup cycle : ℕ) (m : Measures) → firstRefusal l startup cycle ≡ sound → m ≡ measuresOf l →
+    IsSound l startup cycle m
+admitted l startup cycle m e f = record { no-refusal = e; measured = f }
+
 returns-3 : tie.Need-returns-3
 returns-3 c =
     let x = c .before .before .before .before in
@@ -49,11 +60,10 @@ returns-3 c =
     let n : length l ≡ x .args .n = length-take-le (x .args .n) (x .args .items) (omega (arith, x .good .0)) in
     let M : c .before .before .before .latest .result ≡ latest l = c .before .before .before .latest .ensures in
     let H : x .args .whole ≡ hyperperiod l = x .pre .1 .1 .0 in
-    record {
-      no-refusal = not-refused l (x .args .startup) (x .args .cycle) (omega arith) (omega arith) (x .pre .1 .0) (omega arith)
-          (omega arith) (omega arith);
-      measured = rw (M, c .load .ensures, H) refl;
-    }
+    admitted l (x .args .startup) (x .args .cycle)
+    (record { latest = c .before .before .before .latest .result; hyperperiod = x .args .whole; load = c .load .result })
+    (not-refused l (x .args .startup) (x .args .cycle) (omega arith) (omega arith) (x .pre .1 .0) (omega arith) (omega arith) (omega arith))
+    (rw (M, c .load .ensures, H) refl)
 
 pub by-room-spec : {M : Type 1} → statement M
 by-room-spec = tie.close (tie.spec latest-requires add-if1 returns returns-2 load-requires returns-3)
