@@ -1,15 +1,16 @@
 -- The first refusal of a list, check by check, in the paper's order.
-use mathlib.Core.Path.{_≡_}
+use mathlib.Core.Path.{_≡_, _∙_}
 use mathlib.Core.List.{List}
 use Prim.Native.Nat.{ℕ, _+_, _≤_, _<_}
 use native.Mathlib.Omega.{arith}
+use lib.Dec.{ltb}
 use lib.ListN.{length}
 use borrow.Author.Tests.{eq-eqb, ne-eqb, lt-ltb, le-ltb}
 use Rattle.task.specs.declared.Task.{Task}
 use Rattle.task.specs.Limits.{mostTasks, longestHyperperiod}
 use Rattle.task.specs.Tasks.{latest, hyperperiod}
 use Rattle.refusal.specs.declared.Refusal.the-variants.{Count, Hyperperiod, Startup, Cycle}
-use Rattle.refusal.specs.Refusals.{numberOf, sound, refused}
+use Rattle.refusal.specs.Refusals.{numberOf, sound, refused, refusedIf}
 use Rattle.task.specs.Checks.{tasksRefusal, firstRefusal}
 
 module _ (l : List Task) (startup cycle : ℕ) where
@@ -40,24 +41,18 @@ module _ (l : List Task) (startup cycle : ℕ) where
             )
 
         module _ (room : latest l + hyperperiod l ≤ startup) where
-          pub cycle-refused : cycle < hyperperiod l → firstRefusal l startup cycle ≡ refused (numberOf Cycle) 0
-          cycle-refused h =
+          last : firstRefusal l startup cycle ≡ refusedIf (ltb cycle (hyperperiod l)) Cycle 0
+          last =
               rw (
                 ne-eqb (length l) 0 (omega arith),
                 le-ltb mostTasks (length l) few,
                 ok,
                 le-ltb longestHyperperiod (hyperperiod l) short,
                 le-ltb startup (latest l + hyperperiod l) room,
-                lt-ltb cycle (hyperperiod l) h,
               )
 
+          pub cycle-refused : cycle < hyperperiod l → firstRefusal l startup cycle ≡ refused (numberOf Cycle) 0
+          cycle-refused h = last ∙ rw (lt-ltb cycle (hyperperiod l) h)
+
           pub not-refused : hyperperiod l ≤ cycle → firstRefusal l startup cycle ≡ sound
-          not-refused h =
-              rw (
-                ne-eqb (length l) 0 (omega arith),
-                le-ltb mostTasks (length l) few,
-                ok,
-                le-ltb longestHyperperiod (hyperperiod l) short,
-                le-ltb startup (latest l + hyperperiod l) room,
-                le-ltb cycle (hyperperiod l) h,
-              )
+          not-refused h = last ∙ rw (le-ltb cycle (hyperperiod l) h)

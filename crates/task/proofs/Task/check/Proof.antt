@@ -1,7 +1,15 @@
 -- `Task::check` meets its contract: each `return` is at the first test of `taskRefusal` that holds.
+use mathlib.Core.Path.{_≡_, sym, _∙_}
+use lib.Dec.{ltb}
 use borrow.Author.Tests.{eq-eqb, ne-eqb, lt-ltb, le-ltb}
+use Rattle.refusal.specs.declared.Refusal.the-variants.{Offset}
+use Rattle.refusal.specs.Refusals.{refusedIf}
+use Rattle.task.specs.Limits.{latestOffset}
+use Rattle.task.specs.Checks.{taskRefusal}
 use Rattle.task.proofs.Task.check.Statement.{statement}
 use Rattle.task.proofs.Task.check.Tie as tie
+use Rattle.task.proofs.Task.check.Reads as reads
+use Rattle.task.proofs.Task.check.Lts as lts
 
 returns : tie.Need-returns
 returns c = simp (eq-eqb _ _ (c .if1 .taken))
@@ -38,9 +46,11 @@ returns-5 c =
       lt-ltb _ _ (c .if5 .taken),
     )
 
-returns-6 : tie.Need-returns-6
-returns-6 c =
-    let c₅ = c .before .before in
+-- only the last test is left
+last : (c : lts.Else5 reads.Pre reads.Post) →
+    let x = c .before .before .before .before .before .before .before .before .before .before .args in
+    taskRefusal (x .number) (x .self) ≡ refusedIf (ltb latestOffset (x .self .offset)) Offset (x .number)
+last c₅ =
     let c₄ = c₅ .before .before in
     let c₃ = c₄ .before .before in
     let c₂ = c₃ .before .before in
@@ -50,23 +60,13 @@ returns-6 c =
       ne-eqb _ _ (c₃ .if3 .left),
       le-ltb _ _ (c₄ .if4 .left),
       le-ltb _ _ (c₅ .if5 .left),
-      lt-ltb _ _ (c .if6 .taken),
     )
 
+returns-6 : tie.Need-returns-6
+returns-6 c = sym (last (c .before .before) ∙ simp (lt-ltb _ _ (c .if6 .taken)))
+
 returns-7 : tie.Need-returns-7
-returns-7 c =
-    let c₅ = c .before .before in
-    let c₄ = c₅ .before .before in
-    let c₃ = c₄ .before .before in
-    let c₂ = c₃ .before .before in
-    simp (
-      ne-eqb _ _ (c₂ .before .before .if1 .left),
-      le-ltb _ _ (c₂ .if2 .left),
-      ne-eqb _ _ (c₃ .if3 .left),
-      le-ltb _ _ (c₄ .if4 .left),
-      le-ltb _ _ (c₅ .if5 .left),
-      le-ltb _ _ (c .if6 .left),
-    )
+returns-7 c = sym (last (c .before .before) ∙ simp (le-ltb _ _ (c .if6 .left)))
 
 pub check-spec : {M : Type 1} → statement M
 check-spec = tie.close (tie.spec returns returns-2 returns-3 returns-4 returns-5 returns-6 returns-7)
