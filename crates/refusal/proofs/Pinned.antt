@@ -13,10 +13,10 @@ use Rattle.refusal.specs.Refusals.{numberOf, Finding, sound, refused, fi
 refusals : List Refusal
 refusals = Count ∷ Period ∷ Run ∷ Deadline ∷ Offset ∷ Hyperperiod ∷ Startup ∷ Cycle ∷ []
 
-refusalOf : ℕ → Refusal
+pub refusalOf : ℕ → Refusal
 refusalOf number = getD refusals (number - 1) Count
 
-number-back : (r : Refusal) → refusalOf (numberOf r) ≡ r
+pub number-back : (r : Refusal) → refusalOf (numberOf r) ≡ r
 unfolding refusalOf refusals
 number-back Count = refl
 number-back Period = refl

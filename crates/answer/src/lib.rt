@@ -1,0 +1,20 @@
+// What comes back from a check. Document 01, "What comes back".
+use refusal::Refusal;
+
+// What is said of a feasible list: M, H and L, and the counts of the two parts.
+pub struct Plan {
+    pub latest: usize,
+    pub hyperperiod: usize,
+    pub load: usize,
+    pub startup_idle: usize,
+    pub cycle_idle: usize,
+    pub startup_preemptions: usize,
+    pub cycle_preemptions: usize,
+}
+
+pub enum Answer {
+    Refused(Refusal, usize),
+    Overloaded { load: usize, hyperperiod: usize },
+    Missed { task: usize, at: usize },
+    Feasible(Plan),
+}
