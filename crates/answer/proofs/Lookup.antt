@@ -11,8 +11,7 @@ use borrow.Author.Tests.{lt-ltb, le-ltb}
 use Rattle.task.specs.declared.Task.{Task}
 use Rattle.task.specs.Tasks.{latest, hyperperiod}
 use Rattle.schedule.specs.declared.Policy.{Policy}
-use Rattle.schedule.specs.Endless.{endless}
-use Rattle.schedule.proofs.Chosen.{pickAt}
+use Rattle.schedule.specs.Endless.{endless, pickAt}
 use Rattle.schedule.proofs.Schedule.{endless-slots, endless-laps}
 use Rattle.answer.specs.declared.Plan.{Plan}
 use Rattle.answer.specs.Answers.{feasible}

@@ -1,0 +1,93 @@
+-- What the slot engine keeps for each task, and what its parts find. A reader of the promise need not read this: it says nothing that the
+-- promise leans on, and only the engine's proofs cite it.
+use mathlib.Core.Path.{_≡_}
+use mathlib.Core.List.{List}
+use mathlib.Core.Logic.{_⊎_}
+use Prim.Native.Nat.{ℕ, zero, suc, _+_, _*_, _/_, _≤_, _<_}
+use lib.Dec.{eqb}
+use lib.ListN.{length, getD}
+use Rattle.task.specs.declared.Task.{Task}
+use Rattle.task.specs.Tasks.{task}
+use Rattle.schedule.specs.declared.Policy.{Policy}
+use Rattle.schedule.specs.declared.Policy.the-variants.{ListOrder, RateMonotonic, DeadlineMonotonic, Edf}
+use Rattle.schedule.specs.Job.{release, due, one-if, keyOf, Miss}
+use Rattle.schedule.specs.Endless.{arrived, served, endless}
+
+-- number i of an array
+abbrev pub at : List ℕ → ℕ → ℕ
+at l i = getD l i 0
+
+-- the run times, deadlines and periods of a list, each in an array
+pub record Unpacked (l : List Task) (run deadline period : List ℕ) : Type 0 where
+  pub run-is : (i : ℕ) → i < length l → at run i ≡ task l i .run
+  pub deadline-is : (i : ℕ) → i < length l → at deadline i ≡ task l i .deadline
+  pub period-is : (i : ℕ) → i < length l → at period i ≡ task l i .period
+
+-- the oldest unfinished job of task i at t
+abbrev pub present : Policy → List Task → ℕ → ℕ → ℕ
+present p l t i = at (served p l t) i / task l i .run
+
+-- how many jobs of a task are released before t; `arrived` has those released at t as well
+abbrev pub before : Task → ℕ → ℕ
+before τ zero = 0
+before τ (suc t) = arrived τ t
+
+-- a job of task i is unfinished: it is the last of the a jobs released, and its instant due and its key are kept
+pub record Working (p : Policy) (l : List Task) (a t i d k : ℕ) : Type 0 where
+  pub last : suc (present p l t i) ≡ a
+  pub due-is : d ≡ due (task l i) (present p l t i)
+  pub key-is : k ≡ keyOf p i (task l i) (present p l t i)
+
+-- what is kept where a i jobs of task i are released and the slots before t are given: for each task the slots owed, the next release,
+-- and, where something is owed, the instant due and the key of its job
+pub record Kept (p : Policy) (l : List Task) (a : ℕ → ℕ) (t : ℕ) (owed next dues keys : List ℕ) : Type 0 where
+  pub owed-is : (i : ℕ) → i < length l → at owed i + at (served p l t) i ≡ task l i .run * a i
+  pub next-is : (i : ℕ) → i < length l → at next i ≡ release (task l i) (a i)
+  pub working : (i : ℕ) → i < length l → 0 < at owed i → Working p l (a i) t i (at dues i) (at keys i)
+
+-- just before the releases at t, and just after them
+abbrev pub KeptBefore : Policy → List Task → ℕ → List ℕ → List ℕ → List ℕ → List ℕ → Type 0
+KeptBefore p l t = Kept p l (λ i. before (task l i) t) t
+
+abbrev pub KeptAt : Policy → List Task → ℕ → List ℕ → List ℕ → List ℕ → List ℕ → Type 0
+KeptAt p l t = Kept p l (λ i. arrived (task l i) t) t
+
+-- no miss at t or before
+abbrev pub Clear : Policy → List Task → ℕ → Type 0
+Clear p l t = (i d : ℕ) → d ≤ t → Miss l (endless p l) i d → ⊥
+
+-- the least of the first n numbers with a property, n where none has it
+pub record First (P : ℕ → Type 0) (n r : ℕ) : Type 0 where
+  pub within : r ≤ n
+  pub holds : r < n → P r
+  pub none-lower : (j : ℕ) → j < r → P j → ⊥
+
+-- task i has a job due at t to which slots are owed
+abbrev pub Late : List ℕ → List ℕ → ℕ → ℕ → Type 0
+Late owed dues t i = (at dues i ≡ t) × (0 < at owed i)
+
+-- of the first n tasks that slots are owed to, the one with the least key, and the lowest of these; n where there is none
+pub record Picked (owed keys : List ℕ) (n r : ℕ) : Type 0 where
+  pub within : r ≤ n
+  pub waits : r < n → 0 < at owed r
+  pub least : r < n → (j : ℕ) → j < n → 0 < at owed j → (at keys r < at keys j) ⊎ ((at keys r ≡ at keys j) × (r ≤ j))
+  pub none : n ≤ r → (j : ℕ) → j < n → 0 < at owed j → ⊥
+
+-- slot c given to one of the first n tasks, or to none: one slot less is owed to it, and r is the task where its job is not yet done
+pub record Served (n c : ℕ) (owed owed′ : List ℕ) (r : ℕ) : Type 0 where
+  pub each : (i : ℕ) → i < n → at owed′ i + one-if (eqb c i) ≡ at owed i
+  pub left : c < n → 0 < at owed′ c → r ≡ c
+  pub done : (c < n → at owed′ c ≡ 0) → r ≡ n
+
+-- what a policy orders a job of task i by, from the numbers of the task and the instant at which the job is due
+abbrev pub keyFrom : Policy → ℕ → ℕ → ℕ → ℕ → ℕ
+keyFrom ListOrder i period deadline d = i
+keyFrom RateMonotonic i period deadline d = period
+keyFrom DeadlineMonotonic i period deadline d = deadline
+keyFrom Edf i period deadline d = d
+
+-- what a release at t makes of the four numbers of task i
+pub record Released (p : Policy) (i run deadline period t owed next d k owed′ next′ d′ k′ : ℕ) : Type 0 where
+  pub now : next ≡ t →
+      (owed′ ≡ owed + run) × (next′ ≡ t + period) × (d′ ≡ t + deadline) × (k′ ≡ keyFrom p i period deadline (t + deadline))
+  pub not-now : (next ≡ t → ⊥) → (owed′ ≡ owed) × (next′ ≡ next) × (d′ ≡ d) × (k′ ≡ k)
