@@ -64,7 +64,7 @@ module _ (τ : Task) (live : 0 < τ .period) where
 module _ (p : Policy) {l : List Task} {H : ℕ} (w : Sound l H) where
   -- The next slot: the task picked from the kept numbers is the one of the endless schedule.
   module _ (t : ℕ) (owed next dues keys : List ℕ) (x : KeptAt p l t owed next dues keys) where
-    owed-waits : (i : ℕ) → i < length l → (0 < at owed i) ↔ Waits l (hadBy p l) t i
+    pub owed-waits : (i : ℕ) → i < length l → (0 < at owed i) ↔ Waits l (hadBy p l) t i
     owed-waits i b = (λ h. omega (arith, x .owed-is i b), λ h. omega (arith, x .owed-is i b))
 
     pub picked-is : (r : ℕ) → Picked owed keys (length l) r → r ≡ pickAt p l t
@@ -174,7 +174,7 @@ module _ (p : Policy) {l : List Task} {H : ℕ} (w : Sound l H) where
   -- Releases happen: nothing is owed any more to a task whose next job is released, or that job's forerunner would have missed.
   module _ (within : (i : ℕ) → i < length l → task l i .deadline ≤ task l i .period) (t : ℕ) (owed next dues keys : List ℕ)
       (x : KeptBefore p l t owed next dues keys) (clear : Clear p l t) where
-    nothing-owed : (i : ℕ) → i < length l → at next i ≡ t → at owed i ≡ 0
+    pub nothing-owed : (i : ℕ) → i < length l → at next i ≡ t → at owed i ≡ 0
     nothing-owed i b e = elim (decLt 0 (at owed i)) [
       | no h ↦ omega arith
       | yes h ↦

@@ -2,11 +2,13 @@
 -- promise leans on, and only the engine's proofs cite it.
 use mathlib.Core.Path.{_≡_}
 use mathlib.Core.List.{List}
+use mathlib.Core.Bool.{Bool, true, false}
 use mathlib.Core.Logic.{_⊎_}
-use Prim.Native.Nat.{ℕ, zero, suc, _+_, _*_, _/_, _≤_, _<_}
+use Prim.Native.Nat.{ℕ, zero, suc, _+_, _*_, _/_, _^_, _≤_, _<_}
 use lib.Dec.{eqb}
-use lib.ListN.{length, getD}
+use lib.ListN.{length, getD, set}
 use Rattle.task.specs.declared.Task.{Task}
+use Rattle.task.specs.Limits.{mostTasks}
 use Rattle.task.specs.Tasks.{task}
 use Rattle.schedule.specs.declared.Policy.{Policy}
 use Rattle.schedule.specs.declared.Policy.the-variants.{ListOrder, RateMonotonic, DeadlineMonotonic, Edf}
@@ -78,6 +80,7 @@ pub record Served (n c : ℕ) (owed owed′ : List ℕ) (r : ℕ) : Type 0 where
   pub each : (i : ℕ) → i < n → at owed′ i + one-if (eqb c i) ≡ at owed i
   pub left : c < n → 0 < at owed′ c → r ≡ c
   pub done : (c < n → at owed′ c ≡ 0) → r ≡ n
+  pub sized : length owed′ ≡ length owed
 
 -- what a policy orders a job of task i by, from the numbers of the task and the instant at which the job is due
 abbrev pub keyFrom : Policy → ℕ → ℕ → ℕ → ℕ → ℕ
@@ -91,3 +94,33 @@ pub record Released (p : Policy) (i run deadline period t owed next d k owed′ 
   pub now : next ≡ t →
       (owed′ ≡ owed + run) × (next′ ≡ t + period) × (d′ ≡ t + deadline) × (k′ ≡ keyFrom p i period deadline (t + deadline))
   pub not-now : (next ≡ t → ⊥) → (owed′ ≡ owed) × (next′ ≡ next) × (d′ ≡ d) × (k′ ≡ k)
+
+-- no sum of a release at t wraps
+abbrev pub Fitting : ℕ → ℕ → List ℕ → List ℕ → List ℕ → List ℕ → List ℕ → Type 0
+Fitting n t run deadline period owed next = (i : ℕ) → i < n → at next i ≡ t →
+    (at owed i + at run i < 2 ^ 64) × (t + at period i < 2 ^ 64) × (t + at deadline i < 2 ^ 64)
+
+-- each array has a place for every task
+pub record Sized (owed next dues keys : List ℕ) : Type 0 where
+  pub owed-size : length owed ≡ mostTasks
+  pub next-size : length next ≡ mostTasks
+  pub dues-size : length dues ≡ mostTasks
+  pub keys-size : length keys ≡ mostTasks
+
+-- one number of an array stored, if a test holds
+abbrev pub setIf : Bool → List ℕ → ℕ → ℕ → List ℕ
+setIf true l i v = set l i v
+setIf false l i v = l
+
+-- what a release at t makes of the arrays at task i
+pub record Stored (p : Policy) (i t : ℕ) (run deadline period owed next dues keys owed′ next′ dues′ keys′ : List ℕ) : Type 0 where
+  pub owed-stored : owed′ ≡ setIf (eqb (at next i) t) owed i (at owed i + at run i)
+  pub next-stored : next′ ≡ setIf (eqb (at next i) t) next i (t + at period i)
+  pub dues-stored : dues′ ≡ setIf (eqb (at next i) t) dues i (t + at deadline i)
+  pub keys-stored : keys′ ≡ setIf (eqb (at next i) t) keys i (keyFrom p i (at period i) (at deadline i) (t + at deadline i))
+
+-- what the releases at t make of the first n tasks
+pub record AllReleased (p : Policy) (n t : ℕ) (run deadline period owed next dues keys owed′ next′ dues′ keys′ : List ℕ) : Type 0 where
+  pub each : (i : ℕ) → i < n → Released p i (at run i) (at deadline i) (at period i) t
+      (at owed i) (at next i) (at dues i) (at keys i) (at owed′ i) (at next′ i) (at dues′ i) (at keys′ i)
+  pub sized : Sized owed′ next′ dues′ keys′

@@ -1,0 +1,87 @@
+-- `step` meets its contract: what its parts find is what the laws of one slot ask for.
+use mathlib.Core.Path.{refl}
+use native.Mathlib.Omega.{arith}
+use Rattle.state.proofs.Stepping.{few, keys-small, serve-some, sized₁, fitting, kept₂, stepped-on, stepped-missed}
+use borrow.Author.Needs.{needs}
+use Rattle.checker.proofs.step.step.Statement.{statement}
+use Rattle.checker.proofs.step.step.Tie as tie
+
+put-requires : tie.Need-put-requires
+put-requires c κs = 
+    let x = c .before .before in
+    (few (x .pre .0 .1), x .pre .1 .3, x .pre .1 .1)
+
+serve-requires : tie.Need-serve-requires
+serve-requires c κs = 
+    let x = c .before .before .before .before .before .before in
+    ((few (x .pre .0 .1), omega (arith, x .pre .0 .2 .sized .owed-size)), serve-some (x .pre .0 .1) (x .pre .0 .2))
+
+add-instant : tie.Need-add-instant
+add-instant c = search needs
+
+late-requires : tie.Need-late-requires
+late-requires c κs = few (c .before .before .before .before .before .before .before .before .before .pre .0 .1)
+
+same-length : tie.Need-same-length
+same-length c = search needs
+
+returns : tie.Need-returns
+returns c = 
+    let f = c .before in
+    let s = f .before .before .before in
+    (λ l L I. stepped-missed L I (s .serve .ensures) (f .late .ensures) (c .if1 .taken) (s .before .before .before .before .put .ensures), refl)
+
+release-requires : tie.Need-release-requires
+release-requires c κs = 
+    let e = c .before .before .before .before in
+    let f = e .before in
+    let s = f .before .before .before in
+    let x = s .before .before .before .before .before .before .before in
+    let L = x .pre .0 .1 in
+    let I = x .pre .0 .2 in
+    (few L, (sized₁ L I (s .serve .ensures), fitting L I (s .serve .ensures) (f .late .ensures) (e .if1 .left) (omega arith)))
+
+pick-requires : tie.Need-pick-requires
+pick-requires c κs = 
+    let r = c .before .before in
+    let e = r .before .before .before .before .before in
+    let f = e .before in
+    let s = f .before .before .before in
+    let x = s .before .before .before .before .before .before .before in
+    let L = x .pre .0 .1 in
+    (few L, keys-small L (omega arith) (kept₂ L (x .pre .0 .2) (s .serve .ensures) (f .late .ensures) (e .if1 .left) (r .release .ensures)))
+
+switched-requires : tie.Need-switched-requires
+switched-requires c κs = search needs
+
+same-length-2 : tie.Need-same-length-2
+same-length-2 c = search needs
+
+returns-2 : tie.Need-returns-2
+returns-2 c = 
+    let k = c .before in
+    let r = k .before .before .before in
+    let e = r .before .before .before .before .before in
+    let f = e .before in
+    let s = f .before .before .before in
+    let u = s .before .before .before .before in (
+      λ l L I. stepped-on L I (s .serve .ensures) (f .late .ensures) (e .if1 .left) (r .release .ensures) (u .put .ensures)
+          (k .pick .ensures) (c .switched .ensures),
+      refl,
+    )
+
+pub step-spec : {M : Type 1} → statement M
+step-spec =
+    tie.close
+    (tie.spec
+    put-requires
+    serve-requires
+    add-instant
+    late-requires
+    same-length
+    returns
+    release-requires
+    pick-requires
+    switched-requires
+    same-length-2
+    returns-2)

@@ -1,0 +1,72 @@
+// The parts of one slot: who is late, who is released, who is next, who is served.
+ghost use mathlib.Core.Path.{_≡_};
+ghost use Prim.Native.Nat.{ℕ, _+_, _-_, _^_, _≤_, _<_};
+ghost use lib.ListN.{length};
+ghost use Rattle.task.specs.Limits.{mostTasks};
+ghost use Rattle.state.specs.State.{at, First, Late, Picked, Served, keyFrom, Released};
+
+use schedule::Policy;
+use task::Task;
+
+// The least of the first n tasks with a job due at t to which slots are owed, n where there is none.
+pub(crate) fn late(owed: &[usize; Task::MOST], dues: &[usize; Task::MOST], n: usize, t: usize) -> usize
+    requires { ⌜ n ≤ mostTasks ⌝ }
+    ensures { λ r. ⌜ First (Late (now (owed .entry)) (now (dues .entry)) t) n r ⌝ }
+{
+    for i in 0..n {
+        if dues[i] == t {
+            if owed[i] != 0 {
+                return i;
+            }
+        }
+    }
+    n
+}
+
+// The task whose job goes first: the least key, the lower number where keys are equal; n where no job is ready.
+pub(crate) fn pick(owed: &[usize; Task::MOST], keys: &[usize; Task::MOST], n: usize) -> usize
+    requires { ⌜ n ≤ mostTasks ⌝ }
+    requires { ⌜ ((i : ℕ) → i < n → 0 < at (now owed) i → at (now keys) i < 2 ^ 64 - 1) ⌝ }
+    ensures { λ r. ⌜ Picked (now (owed .entry)) (now (keys .entry)) n r ⌝ }
+{
+    let mut best = n;
+    let mut least = usize::MAX;
+    for i in 0..n {
+        if owed[i] != 0 {
+            if keys[i] < least {
+                best = i;
+                least = keys[i];
+            }
+        }
+    }
+    best
+}
+
+// One slot less is owed to the chosen task. It is handed back where its job is not yet done, else n.
+pub(crate) fn serve(owed: &mut [usize; Task::MOST], n: usize, chosen: usize) -> usize
+    requires { ⌜ (n ≤ mostTasks) × (mostTasks ≤ length (now owed)) ⌝ }
+    requires { ⌜ (chosen < n → 0 < at (now owed) chosen) ⌝ }
+    ensures { λ r. ⌜ Served n chosen (now (owed .entry)) (now (owed .exit)) r ⌝ }
+{
+    if n <= chosen {
+        return n;
+    }
+    let left = owed[chosen] - 1;
+    owed[chosen] = left;
+    if left == 0 {
+        return n;
+    }
+    chosen
+}
+
+// What the policy orders a job by: the one place that knows the four keys.
+pub(crate) fn key(policy: Policy, number: usize, period: usize, deadline: usize, due: usize) -> usize
+    ensures { λ r. ⌜ r ≡ keyFrom policy number period deadline due ⌝ }
+{
+    match policy {
+        Policy::ListOrder => number,
+        Policy::RateMonotonic => period,
+        Policy::DeadlineMonotonic => deadline,
+        Policy::Edf => due,
+    }
+}

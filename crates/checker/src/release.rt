@@ -1,0 +1,58 @@
+// The releases at an instant.
+ghost use mathlib.Core.Path.{_≡_};
+ghost use Prim.Native.Nat.{_+_, _^_, _≤_, _<_};
+ghost use Rattle.task.specs.Limits.{mostTasks};
+ghost use Rattle.state.specs.State.{at, Fitting, Sized, Stored, AllReleased};
+
+use crate::part::key;
+use schedule::Policy;
+use task::Task;
+
+// Each task whose next job is released at t: its run time is owed, and its job's instant due and key are kept.
+pub(crate) fn release(
+    policy: Policy,
+    n: usize,
+    t: usize,
+    run: &[usize; Task::MOST],
+    deadline: &[usize; Task::MOST],
+    period: &[usize; Task::MOST],
+    owed: &mut [usize; Task::MOST],
+    next: &mut [usize; Task::MOST],
+    dues: &mut [usize; Task::MOST],
+    keys: &mut [usize; Task::MOST],
+)
+    requires { ⌜ n ≤ mostTasks ⌝ }
+    requires { ⌜ Sized (now owed) (now next) (now dues) (now keys) ⌝ }
+    requires { ⌜ Fitting n t (now run) (now deadline) (now period) (now owed) (now next) ⌝ }
+    ensures { λ _. ⌜ AllReleased policy n t (now (run .entry)) (now (deadline .entry)) (now (period .entry)) (now (owed .entry)) (now (next .entry)) (now (dues .entry)) (now (keys .entry)) (now (owed .exit)) (now (next .exit)) (now (dues .exit)) (now (keys .exit)) ⌝ }
+{
+    for i in 0..n {
+        release_one(policy, i, t, run, deadline, period, owed, next, dues, keys);
+    }
+}
+
+fn release_one(
+    policy: Policy,
+    i: usize,
+    t: usize,
+    run: &[usize; Task::MOST],
+    deadline: &[usize; Task::MOST],
+    period: &[usize; Task::MOST],
+    owed: &mut [usize; Task::MOST],
+    next: &mut [usize; Task::MOST],
+    dues: &mut [usize; Task::MOST],
+    keys: &mut [usize; Task::MOST],
+)
+    requires { ⌜ i < mostTasks ⌝ }
+    requires { ⌜ (at (now next) i ≡ t → (at (now owed) i + at (now run) i < 2 ^ 64) × (t + at (now period) i < 2 ^ 64) × (t + at (now deadline) i < 2 ^ 64)) ⌝ }
+    ensures { λ _. ⌜ Stored policy i t (now (run .entry)) (now (deadline .entry)) (now (period .entry)) (now (owed .entry)) (now (next .entry)) (now (dues .entry)) (now (keys .entry)) (now (owed .exit)) (now (next .exit)) (now (dues .exit)) (now (keys .exit)) ⌝ }
+{
+    if next[i] != t {
+        return;
+    }
+    let due = t + deadline[i];
+    owed[i] = owed[i] + run[i];
+    next[i] = t + period[i];
+    dues[i] = due;
+    keys[i] = key(policy, i, period[i], deadline[i], due);
+}
