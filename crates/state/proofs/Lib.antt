@@ -4,3 +4,5 @@ pub mod Parts
 pub mod Releasing
 pub mod Stepping
 pub mod Stretching
+pub mod Verdict
+pub mod Spreading

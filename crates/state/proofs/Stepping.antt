@@ -28,10 +28,10 @@ use Rattle.state.proofs.Moves.{owed-waits, picked-is, kept-served, firs
 use Rattle.state.proofs.Preempted.{preempted}
 
 module _ {l : List Task} {n : ℕ} {run deadline period : List ℕ} (L : Loaded l n run deadline period) where
-  ok : Passed l (L .startup-room) (L .cycle-room)
+  pub ok : Passed l (L .startup-room) (L .cycle-room)
   ok = passed l (L .startup-room) (L .cycle-room) (L .no-refusal)
 
-  w : Sound l (hyperperiod l)
+  pub w : Sound l (hyperperiod l)
   w = is-sound ok
 
   pub few : n ≤ mostTasks

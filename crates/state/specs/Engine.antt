@@ -5,13 +5,13 @@ use Prim.Native.Nat.{ℕ, suc, _+_, _-_, _≤_, _<_}
 use lib.ListN.{length, set}
 use Rattle.refusal.specs.Refusals.{sound}
 use Rattle.task.specs.declared.Task.{Task}
-use Rattle.task.specs.Tasks.{latest, hyperperiod}
+use Rattle.task.specs.Tasks.{task, latest, hyperperiod, load}
 use Rattle.task.specs.Checks.{firstRefusal}
 use Rattle.schedule.specs.declared.Policy.{Policy}
 use Rattle.schedule.specs.Job.{isIdle, one-if, count, FirstMiss}
 use Rattle.schedule.specs.Endless.{endless, pickAt}
 use Rattle.answer.specs.Tables.{byteOf, filled, preempts}
-use Rattle.state.specs.State.{Unpacked, KeptAt, Clear, Sized}
+use Rattle.state.specs.State.{at, Unpacked, KeptAt, Clear, Sized}
 
 -- a list of n tasks that is not refused, with its numbers in arrays
 pub record Loaded (l : List Task) (n : ℕ) (run deadline period : List ℕ) : Type 0 where
@@ -20,6 +20,11 @@ pub record Loaded (l : List Task) (n : ℕ) (run deadline period : List ℕ) : T
   pub no-refusal : firstRefusal l startup-room cycle-room ≡ sound
   pub counted : n ≡ length l
   pub unpacked : Unpacked l run deadline period
+
+-- before instant 0: nothing is owed, and each task's first release is next
+pub record Fresh (l : List Task) (owed next : List ℕ) : Type 0 where
+  pub nothing-owed : (i : ℕ) → i < length l → at owed i ≡ 0
+  pub first-next : (i : ℕ) → i < length l → at next i ≡ task l i .offset
 
 -- instant t: the releases at it have happened, nothing was missed, and its slot is chosen
 pub record Instant (p : Policy) (l : List Task) (t : ℕ) (owed next dues keys : List ℕ) (chosen : ℕ) : Type 0 where
@@ -51,3 +56,11 @@ pub record Stretched (p : Policy) (l : List Task) (t n : ℕ) (table table′ : 
   pub written : length l ≤ missed → table′ ≡ filled (endless p l) t n table
   pub idles : length l ≤ missed → idle ≡ count (λ u. isIdle (endless p l u)) t n
   pub switches : length l ≤ missed → preemptions ≡ count (preempts l (endless p l)) (suc t) n
+
+-- a list that is not refused and not overloaded, with M, H and L, and two tables with room for its slots
+pub record Ready (l : List Task) (startup cycle : List ℕ) (M H L : ℕ) : Type 0 where
+  pub no-refusal : firstRefusal l (length startup) (length cycle) ≡ sound
+  pub is-latest : M ≡ latest l
+  pub is-hyperperiod : H ≡ hyperperiod l
+  pub is-load : L ≡ load l (hyperperiod l)
+  pub room : L ≤ H

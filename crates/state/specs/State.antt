@@ -25,6 +25,21 @@ pub record Unpacked (l : List Task) (run deadline period : List ℕ) : Type 0 wh
   pub deadline-is : (i : ℕ) → i < length l → at deadline i ≡ task l i .deadline
   pub period-is : (i : ℕ) → i < length l → at period i ≡ task l i .period
 
+-- each array has a place for every task
+pub record Sized (owed next dues keys : List ℕ) : Type 0 where
+  pub owed-size : length owed ≡ mostTasks
+  pub next-size : length next ≡ mostTasks
+  pub dues-size : length dues ≡ mostTasks
+  pub keys-size : length keys ≡ mostTasks
+
+-- the numbers of the first n tasks of an array, each kind in an array of its own
+pub record Spread (items : List Task) (n : ℕ) (run deadline period next : List ℕ) : Type 0 where
+  pub runs : (i : ℕ) → i < n → at run i ≡ task items i .run
+  pub deadlines : (i : ℕ) → i < n → at deadline i ≡ task items i .deadline
+  pub periods : (i : ℕ) → i < n → at period i ≡ task items i .period
+  pub offsets : (i : ℕ) → i < n → at next i ≡ task items i .offset
+  pub sized : Sized run deadline period next
+
 -- the oldest unfinished job of task i at t
 abbrev pub present : Policy → List Task → ℕ → ℕ → ℕ
 present p l t i = at (served p l t) i / task l i .run
@@ -99,13 +114,6 @@ pub record Released (p : Policy) (i run deadline period t owed next d k owed′ 
 abbrev pub Fitting : ℕ → ℕ → List ℕ → List ℕ → List ℕ → List ℕ → List ℕ → Type 0
 Fitting n t run deadline period owed next = (i : ℕ) → i < n → at next i ≡ t →
     (at owed i + at run i < 2 ^ 64) × (t + at period i < 2 ^ 64) × (t + at deadline i < 2 ^ 64)
-
--- each array has a place for every task
-pub record Sized (owed next dues keys : List ℕ) : Type 0 where
-  pub owed-size : length owed ≡ mostTasks
-  pub next-size : length next ≡ mostTasks
-  pub dues-size : length dues ≡ mostTasks
-  pub keys-size : length keys ≡ mostTasks
 
 -- one number of an array stored, if a test holds
 abbrev pub setIf : Bool → List ℕ → ℕ → ℕ → List ℕ
