@@ -1,15 +1,19 @@
 // The parts of one slot: who is late, who is released, who is next, who is served.
 ghost use mathlib.Core.Path.{_≡_};
-ghost use Prim.Native.Nat.{ℕ, _+_, _-_, _^_, _≤_, _<_};
+ghost use Prim.Native.Nat.{ℕ, _-_, _^_, _≤_, _<_};
 ghost use lib.ListN.{length};
 ghost use Rattle.task.specs.Limits.{mostTasks};
-ghost use Rattle.state.specs.State.{at, First, Late, Picked, Served, keyFrom, Released};
-
+ghost use Rattle.state.specs.State.{at, First, Late, Picked, Served, keyFrom};
 use schedule::Policy;
 use task::Task;
 
 // The least of the first n tasks with a job due at t to which slots are owed, n where there is none.
-pub(crate) fn late(owed: &[usize; Task::MOST], dues: &[usize; Task::MOST], n: usize, t: usize) -> usize
+pub(crate) fn late(
+    owed: &[usize; Task::MOST],
+    dues: &[usize; Task::MOST],
+    n: usize,
+    t: usize,
+) -> usize
     requires { ⌜ n ≤ mostTasks ⌝ }
     ensures { λ r. ⌜ First (Late (now (owed .entry)) (now (dues .entry)) t) n r ⌝ }
 {
@@ -60,7 +64,13 @@ pub(crate) fn serve(owed: &mut [usize; Task::MOST], n: usize, chosen: usize) -> 
 }
 
 // What the policy orders a job by: the one place that knows the four keys.
-pub(crate) fn key(policy: Policy, number: usize, period: usize, deadline: usize, due: usize) -> usize
+pub(crate) fn key(
+    policy: Policy,
+    number: usize,
+    period: usize,
+    deadline: usize,
+    due: usize,
+) -> usize
     ensures { λ r. ⌜ r ≡ keyFrom policy number period deadline due ⌝ }
 {
     match policy {

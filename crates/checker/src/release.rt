@@ -3,7 +3,6 @@ ghost use mathlib.Core.Path.{_≡_};
 ghost use Prim.Native.Nat.{_+_, _^_, _≤_, _<_};
 ghost use Rattle.task.specs.Limits.{mostTasks};
 ghost use Rattle.state.specs.State.{at, Fitting, Sized, Stored, AllReleased};
-
 use crate::part::key;
 use schedule::Policy;
 use task::Task;

@@ -5,7 +5,6 @@ ghost use Rattle.task.specs.declared.Task.{Task};
 ghost use Rattle.task.specs.Limits.{mostTasks};
 ghost use Rattle.state.specs.State.{Sized, Spread};
 ghost use Rattle.state.specs.Engine.{Loaded, Fresh, Instant};
-
 use crate::part::pick;
 use crate::release::release;
 use schedule::Policy;

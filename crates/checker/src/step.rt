@@ -9,7 +9,6 @@ ghost use Rattle.task.specs.declared.Task.{Task};
 ghost use Rattle.task.specs.Limits.{mostTasks};
 ghost use Rattle.schedule.specs.Job.{one-if};
 ghost use Rattle.state.specs.Engine.{Loaded, Instant, Put, Stepped};
-
 use crate::part::late;
 use crate::part::pick;
 use crate::part::serve;
@@ -63,7 +62,18 @@ pub(crate) fn step(
             instant,
         };
     }
-    release(policy, n, instant, run, deadline, period, owed, next, dues, keys);
+    release(
+        policy,
+        n,
+        instant,
+        run,
+        deadline,
+        period,
+        owed,
+        next,
+        dues,
+        keys,
+    );
     let following = pick(owed, keys, n);
     let preemptions = switched(n, running, following, w.preemptions);
     Now {

@@ -4,7 +4,6 @@ ghost use Prim.Native.Nat.{_+_, _^_, _≤_, _<_};
 ghost use lib.ListN.{length};
 ghost use Rattle.task.specs.declared.Task.{Task};
 ghost use Rattle.state.specs.Engine.{Loaded, Instant, Stretched};
-
 use crate::step::Now;
 use crate::step::step;
 use schedule::Policy;
@@ -38,7 +37,21 @@ pub(crate) fn stretch(
         instant: from,
     };
     for k in 0..count {
-        w = step(policy, n, from + k, run, deadline, period, owed, next, dues, keys, table, k, w);
+        w = step(
+            policy,
+            n,
+            from + k,
+            run,
+            deadline,
+            period,
+            owed,
+            next,
+            dues,
+            keys,
+            table,
+            k,
+            w,
+        );
         if w.missed < n {
             return w;
         }

@@ -4,11 +4,10 @@ ghost use Rattle.task.specs.declared.Task.{Task};
 ghost use Rattle.answer.specs.Answers.{row};
 ghost use Rattle.answer.specs.Promise.{Permitted};
 ghost use Rattle.state.specs.Engine.{Loaded, Instant, Ready};
-
+use crate::stretch::stretch;
 use admission::Measures;
 use answer::Answer;
 use answer::Plan;
-use crate::stretch::stretch;
 use schedule::Policy;
 use task::Task;
 
@@ -33,14 +32,42 @@ pub(crate) fn tables(
 {
     let hyperperiod = measures.hyperperiod;
     let lead = measures.latest + hyperperiod;
-    let first = stretch(policy, n, 0, lead, run, deadline, period, owed, next, dues, keys, startup, chosen);
+    let first = stretch(
+        policy,
+        n,
+        0,
+        lead,
+        run,
+        deadline,
+        period,
+        owed,
+        next,
+        dues,
+        keys,
+        startup,
+        chosen,
+    );
     if first.missed < n {
         return Answer::Missed {
             task: first.missed,
             at: first.instant,
         };
     }
-    let again = stretch(policy, n, lead, hyperperiod, run, deadline, period, owed, next, dues, keys, cycle, first.chosen);
+    let again = stretch(
+        policy,
+        n,
+        lead,
+        hyperperiod,
+        run,
+        deadline,
+        period,
+        owed,
+        next,
+        dues,
+        keys,
+        cycle,
+        first.chosen,
+    );
     if again.missed < n {
         return Answer::Missed {
             task: again.missed,

@@ -1,27 +1,24 @@
 -- How the kept numbers move from an instant to the next: a slot is served, misses are noted, releases happen, the next slot is chosen.
-use mathlib.Core.Path.{_≡_, refl, sym, ap, _∙_, subst}
+use mathlib.Core.Path.{_≡_, refl, sym, ap, _∙_}
 use mathlib.Core.List.{List}
-use mathlib.Core.Bool.{Bool, true, false}
 use mathlib.Core.Logic.{_⊎_, inl, inr, _↔_}
-use Prim.Native.Nat.{ℕ, zero, suc, _+_, _*_, _-_, _/_, _≤_, _<_}
-use native.Mathlib.Nat.{mul-le-mul-left, mul-le-mul-right, div-lt-iff-lt-mul, div-mul-le-self, mul-div-cancel-left}
+use Prim.Native.Nat.{ℕ, zero, suc, _+_, _*_, _/_, _≤_, _<_}
+use native.Mathlib.Nat.{mul-le-mul-left, div-lt-iff-lt-mul, mul-div-cancel-left}
 use native.Mathlib.Decide.{decLt, ℕ-discrete}
 use native.Mathlib.Omega.{arith}
-use lib.Dec.{eqb}
-use lib.ListN.{length, getD, set}
-use lib.Seq.{getD-set-same, getD-set-other}
+use lib.ListN.{length}
 use Rattle.task.specs.declared.Task.{Task}
 use Rattle.task.specs.Tasks.{task}
 use Rattle.schedule.specs.declared.Policy.{Policy}
 use Rattle.schedule.specs.declared.Policy.the-variants.{ListOrder, RateMonotonic, DeadlineMonotonic, Edf}
 use Rattle.schedule.specs.Job.{release, due, keyOf, Miss, FirstMiss}
 use Rattle.schedule.specs.Endless.{arrived, served, endless, pickAt}
-use Rattle.schedule.proofs.Arrivals.{div-mono, upTo-iff, upTo-past, upTo-few, upTo-many}
-use Rattle.schedule.proofs.Run.{Sound, Waits, Run, step-eq, step-ne, had-mono}
+use Rattle.schedule.proofs.Arrivals.{div-mono, upTo-iff, upTo-few}
+use Rattle.schedule.proofs.Run.{Sound, Waits, Run, had-mono}
 use Rattle.schedule.proofs.Chosen.{hadBy, endless-run}
 use Rattle.schedule.proofs.Keys.{aheadOf}
 use Rattle.schedule.proofs.Schedule.{endless-late, endless-miss}
-use Rattle.state.specs.State.{at, Unpacked, present, before, Working, Kept, KeptBefore, KeptAt, Clear, First, Late, Picked, Served, keyFrom, Released}
+use Rattle.state.specs.State.{at, Unpacked, present, before, Working, KeptBefore, KeptAt, Clear, First, Late, Picked, Served, keyFrom, Released}
 
 key-from : (p : Policy) (i : ℕ) (τ : Task) (k : ℕ) → keyFrom p i (τ .period) (τ .deadline) (due τ k) ≡ keyOf p i τ k
 key-from ListOrder i τ k = refl

@@ -1,8 +1,8 @@
 -- When a preemption is counted: the task whose job is not done after a slot is not the one that the next slot goes to.
 use mathlib.Core.Path.{_≡_, refl, sym, ap, _∙_}
 use mathlib.Core.List.{List}
-use mathlib.Core.Bool.{Bool, true, false, not, _&&_}
-use Prim.Native.Nat.{ℕ, suc, _+_, _*_, _≤_, _<_}
+use mathlib.Core.Bool.{not, _&&_}
+use Prim.Native.Nat.{ℕ, suc, _*_, _≤_, _<_}
 use native.Mathlib.Nat.{mul-le-mul-left}
 use native.Mathlib.Decide.{decLt, ℕ-discrete}
 use native.Mathlib.Omega.{arith}
@@ -12,8 +12,8 @@ use borrow.Author.Tests.{lt-ltb, le-ltb, eq-eqb, ne-eqb}
 use Rattle.task.specs.declared.Task.{Task}
 use Rattle.task.specs.Tasks.{task}
 use Rattle.schedule.specs.declared.Policy.{Policy}
-use Rattle.schedule.specs.Job.{job, had}
-use Rattle.schedule.specs.Endless.{arrived, served, endless, pickAt}
+use Rattle.schedule.specs.Job.{had}
+use Rattle.schedule.specs.Endless.{endless, pickAt}
 use Rattle.schedule.proofs.Sums.{one-eq}
 use Rattle.schedule.proofs.Arrivals.{upTo-mono}
 use Rattle.schedule.proofs.Run.{Sound, Run}
@@ -21,7 +21,7 @@ use Rattle.schedule.proofs.Chosen.{hadBy, endless-run}
 use Rattle.schedule.proofs.Keys.{aheadOf}
 use Rattle.schedule.proofs.Jobs.{short-iff}
 use Rattle.schedule.proofs.Schedule.{endless-slots}
-use Rattle.answer.specs.Tables.{another, cutShort, preempts}
+use Rattle.answer.specs.Tables.{another, preempts}
 use Rattle.state.specs.State.{at, present, KeptAt, Served}
 use Rattle.state.proofs.Moves.{had-next, same-job}
 

@@ -3,7 +3,6 @@ use mathlib.Core.Path.{_≡_, refl, sym, ap, _∙_}
 use mathlib.Core.List.{List}
 use mathlib.Core.Bool.{Bool, true, false}
 use Prim.Native.Nat.{ℕ, _+_, _≤_, _<_}
-use native.Mathlib.Decide.{decLt, ℕ-discrete}
 use native.Mathlib.Omega.{arith}
 use borrow.Author.Tests.{eq-eqb, ne-eqb}
 use borrow.Author.Count.{below-more}
@@ -101,7 +100,7 @@ module _ (p : Policy) (i t : ℕ) (run deadline period owed next dues keys : Lis
 
   pub stored-now : at next i ≡ t → (k : ℕ) → k ≡ keyFrom p i (at period i) (at deadline i) (t + at deadline i) →
       Stored p i t run deadline period owed next dues keys
-          (set owed i (at owed i + at run i)) (set next i (t + at period i)) (set dues i (t + at deadline i)) (set keys i k)
+      (set owed i (at owed i + at run i)) (set next i (t + at period i)) (set dues i (t + at deadline i)) (set keys i k)
   stored-now e k f =
       let q : true ≡ eqb (at next i) t = sym (eq-eqb (at next i) t e) in
       record {

@@ -1,8 +1,7 @@
 -- A list spread over arrays, task by task, and the engine's start from it.
 use mathlib.Core.Path.{_≡_, refl, sym, ap, _∙_}
 use mathlib.Core.List.{List}
-use Prim.Native.Nat.{ℕ, suc, _+_, _^_, _-_, _≤_, _<_}
-use native.Mathlib.Decide.{ℕ-discrete}
+use Prim.Native.Nat.{ℕ, _+_, _≤_, _<_}
 use native.Mathlib.Omega.{arith}
 use borrow.Author.Count.{below-more}
 use lib.ListN.{length, take, set, length-set}
@@ -13,7 +12,7 @@ use Rattle.task.specs.Limits.{mostTasks}
 use Rattle.task.specs.Tasks.{nobody, task}
 use Rattle.task.specs.Checks.{firstRefusal}
 use Rattle.schedule.specs.declared.Policy.{Policy}
-use Rattle.state.specs.State.{at, Sized, Spread, Unpacked, KeptBefore, KeptAt, Clear, Picked, Fitting, AllReleased}
+use Rattle.state.specs.State.{at, Sized, Spread, KeptAt, Picked, Fitting, AllReleased}
 use Rattle.state.specs.Engine.{Loaded, Fresh, Instant}
 use Rattle.state.proofs.Moves.{picked-is, kept-start, clear-start, kept-released}
 use Rattle.state.proofs.Stepping.{ok, w}
@@ -87,8 +86,7 @@ module _ {l : List Task} {n : ℕ} {run deadline period owed next : List ℕ} (L
   pub fitting-start : Fitting n 0 run deadline period owed next
   fitting-start i b e =
       let il : i < length l = omega (arith, L .counted) in
-      let F = ok L .fine i il in
-      (
+      let F = ok L .fine i il in (
         omega (arith, f .nothing-owed i il, L .unpacked .run-is i il, F .fits, F .within, F .short),
         omega (arith, L .unpacked .period-is i il, F .short),
         omega (arith, L .unpacked .deadline-is i il, F .within, F .short),

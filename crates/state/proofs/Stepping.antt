@@ -1,10 +1,10 @@
 -- One slot: from what the parts of the engine find to the endless schedule's next instant.
-use mathlib.Core.Path.{_≡_, refl, sym, ap, _∙_, subst}
+use mathlib.Core.Path.{_≡_, refl, sym, ap, _∙_}
 use mathlib.Core.List.{List}
-use mathlib.Core.Bool.{Bool, not, _&&_}
-use Prim.Native.Nat.{ℕ, suc, _+_, _*_, _-_, _^_, _≤_, _<_}
+use mathlib.Core.Bool.{not, _&&_}
+use Prim.Native.Nat.{ℕ, suc, _+_, _-_, _^_, _≤_, _<_}
 use native.Mathlib.Numerals.{add-one}
-use native.Mathlib.Decide.{decLt, ℕ-discrete}
+use native.Mathlib.Decide.{decLt}
 use native.Mathlib.Omega.{arith}
 use lib.Dec.{eqb, ltb}
 use lib.ListN.{length, set}
@@ -14,7 +14,7 @@ use Rattle.task.specs.Tasks.{task, hyperperiod}
 use Rattle.task.proofs.Refusing.{Fine, Passed, passed}
 use Rattle.schedule.specs.declared.Policy.{Policy}
 use Rattle.schedule.specs.declared.Policy.the-variants.{ListOrder, RateMonotonic, DeadlineMonotonic, Edf}
-use Rattle.schedule.specs.Job.{due, one-if, isIdle, keyOf}
+use Rattle.schedule.specs.Job.{one-if, isIdle, keyOf}
 use Rattle.schedule.specs.Endless.{arrived, endless, pickAt}
 use Rattle.schedule.proofs.Admitted.{is-sound}
 use Rattle.schedule.proofs.Arrivals.{upTo-iff}
@@ -104,8 +104,7 @@ module _ {l : List Task} {n : ℕ} {run deadline period : List ℕ} (L : Loaded 
             let il : i < length l = omega (arith, L .counted) in
             let F = ok .fine i il in
             let z : at owed₁ i ≡ 0 =
-                nothing-owed p w (λ j d. ok .fine j d .within) (suc t) owed₁ next dues keys kept₁ (clear₁ h) i il (e ∙ add-one t) in
-            (
+            nothing-owed p w (λ j d. ok .fine j d .within) (suc t) owed₁ next dues keys kept₁ (clear₁ h) i il (e ∙ add-one t) in (
               omega (arith, z, L .unpacked .run-is i il, F .fits, F .within, F .short),
               omega (arith, L .unpacked .period-is i il, F .short),
               omega (arith, L .unpacked .deadline-is i il, F .within, F .short),
@@ -132,8 +131,8 @@ module _ {l : List Task} {n : ℕ} {run deadline period : List ℕ} (L : Loaded 
               after ≡ before + one-if (preempts l (endless p l) (suc t))
           switched {following} before k e =
               let q : (ltb running n && not (eqb running following)) ≡ preempts l (endless p l) (suc t) =
-                  rw (L .counted, instant₂ k .is-chosen)
-                  (sym (preempted p w t owed next dues keys owed₁ running (I .kept) served-is)) in
+              rw (L .counted, instant₂ k .is-chosen)
+              (sym (preempted p w t owed next dues keys owed₁ running (I .kept) served-is)) in
               e ∙ ap (λ z. before + one-if z) q
 
           pub stepped-on : {place following before after : ℕ} {table table′ : List ℕ} {idle idle′ : ℕ} →

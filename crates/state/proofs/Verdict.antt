@@ -1,13 +1,11 @@
 -- From two stretches of slots to the answer: the startup part from 0 on, and the cycle from M + H on.
-use mathlib.Core.Path.{_≡_, refl, ap, _∙_}
+use mathlib.Core.Path.{_≡_, refl}
 use mathlib.Core.List.{List}
 use Prim.Native.Nat.{ℕ, _+_, _-_, _^_, _≤_, _<_, min}
 use native.Mathlib.Omega.{arith}
 use lib.ListN.{length}
-use Rattle.refusal.specs.Refusals.{sound}
 use Rattle.task.specs.declared.Task.{Task}
 use Rattle.task.specs.Tasks.{latest, hyperperiod, load}
-use Rattle.task.specs.Checks.{firstRefusal}
 use Rattle.task.specs.Limits.{latestOffset}
 use Rattle.task.proofs.Offsets.{latest-least}
 use Rattle.task.proofs.Refusing.{Passed, passed}

@@ -32,7 +32,7 @@ element-copy-out-if2 : tie.Need-element-copy-out-if2 Inv-loop μ-loop
 element-copy-out-if2 c = omega arith
 
 returns : tie.Need-returns Inv-loop μ-loop
-returns c = 
+returns c =
     let l = c .before .before .before .before .before in
     record {
       within = omega arith;
@@ -47,12 +47,12 @@ loop-less : tie.Need-loop-less Inv-loop μ-loop
 loop-less c = omega arith
 
 loop-again : tie.Need-loop-again Inv-loop μ-loop
-loop-again c = 
+loop-again c =
     let l = c .before .before .before in
     (omega arith, below-more _ _ (l .loop .inv .1) (⊎-elim (λ w y. omega (arith, w .2 .left, y .1)) (λ w y. w .left (y .0)) (c .if1 .came)))
 
 returns-2 : tie.Need-returns-2 Inv-loop μ-loop
-returns-2 c = 
+returns-2 c =
     let l = c .before in
     let e : l .loop .i ≡ l .before .args .n = omega arith in
     record { within = omega arith; holds = λ h. absurd (omega arith); none-lower = rw e at (l .loop .inv .1) }

@@ -1,7 +1,7 @@
 -- `pick` meets its contract: `best` is the choice among the first i tasks, and `least` its key.
 use mathlib.Core.Path.{_≡_}
 use mathlib.Core.Logic.{⊎-elim}
-use Prim.Native.Nat.{ℕ, _-_, _≤_}
+use Prim.Native.Nat.{_-_, _≤_}
 use native.Mathlib.Omega.{arith}
 use Rattle.state.proofs.Parts.{SoFar, so-far-start, so-far-all, so-far-none, so-far-kept, so-far-taken}
 use Rattle.checker.proofs.part.pick.Statement.{statement}
@@ -43,7 +43,7 @@ loop-less : tie.Need-loop-less Inv-loop μ-loop
 loop-less c = omega arith
 
 loop-again : tie.Need-loop-again Inv-loop μ-loop
-loop-again c = 
+loop-again c =
     let l = c .before .before .before in
     let x = l .before in
     let o = x .args .owed .now in
@@ -54,13 +54,13 @@ loop-again c =
           (λ w. rw (w .4, w .5) (so-far-taken o k (x .args .n) (l .loop .i) (l .loop .best) (l .loop .least) (omega arith) s (omega (arith, w .0 .taken)) (w .2 .taken)))
           (⊎-elim
           (λ w. rw (w .3, w .4) (so-far-kept o k (x .args .n) (l .loop .i) (l .loop .best) (l .loop .least) (omega arith) s
-              (x .pre .1 (l .loop .i) (omega arith) (omega (arith, w .0 .taken))) (w .2 .left)))
+          (x .pre .1 (l .loop .i) (omega arith) (omega (arith, w .0 .taken))) (w .2 .left)))
           (λ w. rw (w .1, w .2) (so-far-none o k (x .args .n) (l .loop .i) (l .loop .best) (l .loop .least) (omega arith) s (w .0 .left))))
           (c .if1 .came),
     )
 
 returns : tie.Need-returns Inv-loop μ-loop
-returns c = 
+returns c =
     let l = c .before in
     let x = l .before in
     let e : l .loop .i ≡ x .args .n = omega arith in

@@ -26,12 +26,12 @@ element-write-owed : tie.Need-element-write-owed
 element-write-owed c = search needs
 
 returns-2 : tie.Need-returns-2
-returns-2 c = 
+returns-2 c =
     let x = c .before .before .before in
     served-done (x .args .n) (x .args .chosen) (x .args .owed .now) (omega arith) (omega (arith, x .pre .0)) (x .pre .1 (omega arith)) (c .if2 .taken)
 
 returns-3 : tie.Need-returns-3
-returns-3 c = 
+returns-3 c =
     let x = c .before .before .before in
     served-left (x .args .n) (x .args .chosen) (x .args .owed .now) (omega arith) (omega (arith, x .pre .0)) (x .pre .1 (omega arith)) (c .if2 .left)
 

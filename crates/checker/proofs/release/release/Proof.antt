@@ -1,6 +1,6 @@
 -- `release` meets its contract: the releases of the first i tasks have happened.
 use mathlib.Core.Path.{_≡_, sym, _∙_}
-use Prim.Native.Nat.{ℕ, _-_, _≤_}
+use Prim.Native.Nat.{_-_, _≤_}
 use native.Mathlib.Omega.{arith}
 use Rattle.state.proofs.Releasing.{Halfway, halfway-start, halfway-next, halfway-end}
 use Rattle.checker.proofs.release.release.Statement.{statement}
@@ -16,7 +16,7 @@ loop-holds : tie.Need-loop-holds Inv-loop μ-loop
 loop-holds c = (omega arith, halfway-start _ _ _ _ _ _ _ _ _ (c .pre .1 .0))
 
 release-one-requires : tie.Need-release-one-requires Inv-loop μ-loop
-release-one-requires c κs = 
+release-one-requires c κs =
     let l = c .before .before .before .before .before in
     let x = l .before in
     let r = l .loop .inv .1 .rest (l .loop .i) (omega arith) in
@@ -29,7 +29,7 @@ loop-less : tie.Need-loop-less Inv-loop μ-loop
 loop-less c = omega arith
 
 loop-again : tie.Need-loop-again Inv-loop μ-loop
-loop-again c = 
+loop-again c =
     let l = c .before .before .before .before .before .before in
     let a = l .before .args in (
       omega arith,
@@ -38,7 +38,7 @@ loop-again c =
     )
 
 returns : tie.Need-returns Inv-loop μ-loop
-returns c = 
+returns c =
     let l = c .before in
     let a = l .before .args in
     let e : l .loop .i ≡ a .n = omega arith in

@@ -87,7 +87,7 @@ element-write-keys : tie.Need-element-write-keys
 element-write-keys c = search needs
 
 returns-2 : tie.Need-returns-2
-returns-2 c = 
+returns-2 c =
     let x = c .before .before .before .before .before .before .before .before .before in
     let a = x .args in
     stored-now (a .policy) (a .i) (a .t) (a .run .now) (a .deadline .now) (a .period .now) (a .owed .now) (a .next .now) (a .dues .now) (a .keys .now) (c .before .before .before .before .before .before .before .if1 .left) (c .key .result) (c .key .ensures)

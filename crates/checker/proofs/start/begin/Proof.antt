@@ -6,18 +6,18 @@ use Rattle.checker.proofs.start.begin.Statement.{statement}
 use Rattle.checker.proofs.start.begin.Tie as tie
 
 release-requires : tie.Need-release-requires
-release-requires c κs = 
+release-requires c κs =
     let x = c .before .before .before .before in
     (few (x .pre .0 .1), (x .pre .1, fitting-start (x .pre .0 .1) (x .pre .0 .2)))
 
 pick-requires : tie.Need-pick-requires
-pick-requires c κs = 
+pick-requires c κs =
     let r = c .before .before in
     let x = r .before .before .before .before .before in
     (few (x .pre .0 .1), keys-small (x .pre .0 .1) (omega arith) (kept-first (x .pre .0 .1) (x .pre .0 .2) (r .release .ensures)))
 
 returns : tie.Need-returns
-returns c = 
+returns c =
     let r = c .before .before .before in
     λ l L f. instant-first L f (r .release .ensures) (c .pick .ensures)
 

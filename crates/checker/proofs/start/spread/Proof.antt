@@ -53,12 +53,12 @@ loop-less : tie.Need-loop-less Inv-loop μ-loop
 loop-less c = omega arith
 
 loop-again : tie.Need-loop-again Inv-loop μ-loop
-loop-again c = 
+loop-again c =
     let l = c .before .before in
     (omega arith, spread-next (l .before .args .t1) (l .loop .i) (l .loop .run) (l .loop .deadline) (l .loop .period) (l .loop .next) (l .loop .inv .1) (omega arith))
 
 returns : tie.Need-returns Inv-loop μ-loop
-returns c = 
+returns c =
     let l = c .before in
     let e : l .loop .i ≡ l .before .args .n = omega arith in
     rw e at (l .loop .inv .1)

@@ -7,12 +7,12 @@ use Rattle.checker.proofs.step.step.Statement.{statement}
 use Rattle.checker.proofs.step.step.Tie as tie
 
 put-requires : tie.Need-put-requires
-put-requires c κs = 
+put-requires c κs =
     let x = c .before .before in
     (few (x .pre .0 .1), x .pre .1 .3, x .pre .1 .1)
 
 serve-requires : tie.Need-serve-requires
-serve-requires c κs = 
+serve-requires c κs =
     let x = c .before .before .before .before .before .before in
     ((few (x .pre .0 .1), omega (arith, x .pre .0 .2 .sized .owed-size)), serve-some (x .pre .0 .1) (x .pre .0 .2))
 
@@ -26,13 +26,13 @@ same-length : tie.Need-same-length
 same-length c = search needs
 
 returns : tie.Need-returns
-returns c = 
+returns c =
     let f = c .before in
     let s = f .before .before .before in
     (λ l L I. stepped-missed L I (s .serve .ensures) (f .late .ensures) (c .if1 .taken) (s .before .before .before .before .put .ensures), refl)
 
 release-requires : tie.Need-release-requires
-release-requires c κs = 
+release-requires c κs =
     let e = c .before .before .before .before in
     let f = e .before in
     let s = f .before .before .before in
@@ -42,7 +42,7 @@ release-requires c κs =
     (few L, (sized₁ L I (s .serve .ensures), fitting L I (s .serve .ensures) (f .late .ensures) (e .if1 .left) (omega arith)))
 
 pick-requires : tie.Need-pick-requires
-pick-requires c κs = 
+pick-requires c κs =
     let r = c .before .before in
     let e = r .before .before .before .before .before in
     let f = e .before in
@@ -58,7 +58,7 @@ same-length-2 : tie.Need-same-length-2
 same-length-2 c = search needs
 
 returns-2 : tie.Need-returns-2
-returns-2 c = 
+returns-2 c =
     let k = c .before in
     let r = k .before .before .before in
     let e = r .before .before .before .before .before in
