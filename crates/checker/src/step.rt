@@ -2,13 +2,13 @@
 ghost use mathlib.Core.Path.{_≡_};
 ghost use mathlib.Core.Bool.{not, _&&_};
 ghost use mathlib.Core.List.{List};
-ghost use Prim.Native.Nat.{_+_, _^_, _≤_, _<_};
+ghost use Prim.Native.Nat.{_+_, _≤_, _<_};
 ghost use lib.Dec.{eqb, ltb};
 ghost use lib.ListN.{length};
 ghost use Rattle.task.specs.declared.Task.{Task};
 ghost use Rattle.task.specs.Limits.{mostTasks};
 ghost use Rattle.schedule.specs.Job.{one-if};
-ghost use Rattle.state.specs.Engine.{Loaded, Instant, Put, Stepped};
+ghost use Rattle.state.specs.Engine.{plenty, Loaded, Instant, Put, Stepped};
 use crate::part::late;
 use crate::part::pick;
 use crate::part::serve;
@@ -44,7 +44,7 @@ pub(crate) fn step(
     w: Now,
 ) -> Now
     requires { ⌜ ((l : List Task) × Loaded l n (now run) (now deadline) (now period) × Instant policy l t (now owed) (now next) (now dues) (now keys) (w .chosen)) ⌝ }
-    requires { ⌜ (t + 1 < 2 ^ 32) × (w .idle < 2 ^ 32) × (w .preemptions < 2 ^ 32) × (place < length (now table)) ⌝ }
+    requires { ⌜ (t + 1 < plenty) × (w .idle < plenty) × (w .preemptions < plenty) × (place < length (now table)) ⌝ }
     ensures slot { λ r. ⌜ ((l : List Task) → Loaded l n (now (run .entry)) (now (deadline .entry)) (now (period .entry)) → Instant policy l t (now (owed .entry)) (now (next .entry)) (now (dues .entry)) (now (keys .entry)) (w .chosen) → Stepped policy l t place (now (table .entry)) (now (table .exit)) (w .idle) (r .idle) (w .preemptions) (r .preemptions) (r .missed) (now (owed .exit)) (now (next .exit)) (now (dues .exit)) (now (keys .exit)) (r .chosen)) ⌝ }
     ensures instant { λ r. ⌜ r .instant ≡ t + 1 ⌝ }
 {
@@ -86,7 +86,7 @@ pub(crate) fn step(
 }
 
 fn put(table: &mut [u8], place: usize, n: usize, chosen: usize, idle: usize) -> usize
-    requires { ⌜ (n ≤ mostTasks) × (place < length (now table)) × (idle < 2 ^ 32) ⌝ }
+    requires { ⌜ (n ≤ mostTasks) × (place < length (now table)) × (idle < plenty) ⌝ }
     ensures { λ r. ⌜ Put n chosen place (now (table .entry)) (now (table .exit)) idle r ⌝ }
 {
     if chosen < n {
@@ -99,7 +99,7 @@ fn put(table: &mut [u8], place: usize, n: usize, chosen: usize, idle: usize) -> 
 
 // One preemption more where the running job is not done and another task is next.
 fn switched(n: usize, running: usize, following: usize, preemptions: usize) -> usize
-    requires { ⌜ preemptions < 2 ^ 32 ⌝ }
+    requires { ⌜ preemptions < plenty ⌝ }
     ensures { λ r. ⌜ r ≡ preemptions + one-if (ltb running n && not (eqb running following)) ⌝ }
 {
     if n <= running {

@@ -1,9 +1,9 @@
 // A stretch of slots, written to one table.
 ghost use mathlib.Core.List.{List};
-ghost use Prim.Native.Nat.{_+_, _^_, _≤_, _<_};
+ghost use Prim.Native.Nat.{_+_, _≤_, _<_};
 ghost use lib.ListN.{length};
 ghost use Rattle.task.specs.declared.Task.{Task};
-ghost use Rattle.state.specs.Engine.{Loaded, Instant, Stretched};
+ghost use Rattle.state.specs.Engine.{plenty, Loaded, Instant, Stretched};
 use crate::step::Now;
 use crate::step::step;
 use schedule::Policy;
@@ -26,7 +26,7 @@ pub(crate) fn stretch(
     chosen: usize,
 ) -> Now
     requires { ⌜ ((l : List Task) × Loaded l n (now run) (now deadline) (now period) × Instant policy l from (now owed) (now next) (now dues) (now keys) chosen) ⌝ }
-    requires { ⌜ (from + count < 2 ^ 32) × (count ≤ length (now table)) ⌝ }
+    requires { ⌜ (from + count < plenty) × (count ≤ length (now table)) ⌝ }
     ensures { λ r. ⌜ ((l : List Task) → Loaded l n (now (run .entry)) (now (deadline .entry)) (now (period .entry)) → Instant policy l from (now (owed .entry)) (now (next .entry)) (now (dues .entry)) (now (keys .entry)) chosen → Stretched policy l from count (now (table .entry)) (now (table .exit)) (r .idle) (r .preemptions) (r .missed) (r .instant) (now (owed .exit)) (now (next .exit)) (now (dues .exit)) (now (keys .exit)) (r .chosen)) ⌝ }
 {
     let mut w = Now {

@@ -23,7 +23,7 @@ use Rattle.schedule.proofs.Chosen.{endless-run}
 use Rattle.schedule.proofs.Schedule.{endless-slots}
 use Rattle.answer.specs.Tables.{byteOf, preempts}
 use Rattle.state.specs.State.{at, present, KeptBefore, KeptAt, Clear, First, Late, Picked, Served, Fitting, Sized, AllReleased}
-use Rattle.state.specs.Engine.{Loaded, Instant, Put, Stepped}
+use Rattle.state.specs.Engine.{plenty, Loaded, Instant, Put, Stepped}
 use Rattle.state.proofs.Moves.{owed-waits, picked-is, kept-served, first-miss, clear-next, nothing-owed, kept-released}
 use Rattle.state.proofs.Preempted.{preempted}
 
@@ -38,7 +38,7 @@ module _ {l : List Task} {n : ℕ} {run deadline period : List ℕ} (L : Loaded 
   few = omega (arith, L .counted, ok .few)
 
   -- the keys that are looked at are small
-  key-small : (p : Policy) (t i k : ℕ) → i < length l → k < arrived (task l i) t → t < 2 ^ 32 → keyOf p i (task l i) k < 2 ^ 64 - 1
+  key-small : (p : Policy) (t i k : ℕ) → i < length l → k < arrived (task l i) t → t < plenty → keyOf p i (task l i) k < 2 ^ 64 - 1
   key-small p t i k b h q = go p
     where
       F : Fine (task l i)
@@ -50,7 +50,7 @@ module _ {l : List Task} {n : ℕ} {run deadline period : List ℕ} (L : Loaded 
       go DeadlineMonotonic = omega (arith, F .within, F .short)
       go Edf = omega (arith, F .within, F .short, upTo-iff (task l i .offset) (task l i .period) (F .live) t k .0 h)
 
-  pub keys-small : {p : Policy} {t : ℕ} {owed next dues keys : List ℕ} → t < 2 ^ 32 → KeptAt p l t owed next dues keys →
+  pub keys-small : {p : Policy} {t : ℕ} {owed next dues keys : List ℕ} → t < plenty → KeptAt p l t owed next dues keys →
       (i : ℕ) → i < n → 0 < at owed i → at keys i < 2 ^ 64 - 1
   keys-small {p} {t} q x i b h =
       let il : i < length l = omega (arith, L .counted) in
@@ -99,7 +99,7 @@ module _ {l : List Task} {n : ℕ} {run deadline period : List ℕ} (L : Loaded 
         clear₁ : n ≤ missed → Clear p l (suc t)
         clear₁ h = clear-next p w timely (suc t) owed₁ next dues keys kept₁ t missed first-is (omega (arith, L .counted)) (I .clear) refl
 
-        pub fitting : n ≤ missed → t < 2 ^ 32 → Fitting n (t + 1) run deadline period owed₁ next
+        pub fitting : n ≤ missed → t < plenty → Fitting n (t + 1) run deadline period owed₁ next
         fitting h q i b e =
             let il : i < length l = omega (arith, L .counted) in
             let F = ok .fine i il in

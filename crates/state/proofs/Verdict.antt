@@ -1,7 +1,7 @@
 -- From two stretches of slots to the answer: the startup part from 0 on, and the cycle from M + H on.
 use mathlib.Core.Path.{_≡_, refl}
 use mathlib.Core.List.{List}
-use Prim.Native.Nat.{ℕ, _+_, _-_, _^_, _≤_, _<_, min}
+use Prim.Native.Nat.{ℕ, _+_, _-_, _≤_, _<_, min}
 use native.Mathlib.Omega.{arith}
 use lib.ListN.{length}
 use Rattle.task.specs.declared.Task.{Task}
@@ -17,7 +17,7 @@ use Rattle.answer.specs.declared.Plan.{Plan}
 use Rattle.answer.specs.Answers.{missed, feasible}
 use Rattle.answer.specs.Tables.{filled, planOf}
 use Rattle.answer.specs.Promise.{Permitted}
-use Rattle.state.specs.Engine.{Stretched, Ready}
+use Rattle.state.specs.Engine.{plenty, Stretched, Ready}
 
 -- M, H, L and four counts
 abbrev pub planWith : ℕ → ℕ → ℕ → ℕ → ℕ → ℕ → ℕ → Plan
@@ -36,7 +36,7 @@ module _ {l : List Task} {startup cycle : List ℕ} {M H L : ℕ} (R : Ready l s
   ok = passed l (length startup) (length cycle) (R .no-refusal)
 
   -- nothing wraps, and the tables have room
-  pub small : M + H + H < 2 ^ 32
+  pub small : M + H + H < plenty
   small = omega (arith, R .is-latest, R .is-hyperperiod, ok .short, latest-least l latestOffset (λ i b. ok .fine i b .soon))
 
   pub startup-fits : M + H ≤ length startup

@@ -1,17 +1,21 @@
 -- What one slot, and a stretch of slots, make of what the slot engine keeps. Only the engine's proofs cite it.
 use mathlib.Core.Path.{_≡_}
 use mathlib.Core.List.{List}
-use Prim.Native.Nat.{ℕ, suc, _+_, _-_, _≤_, _<_}
+use Prim.Native.Nat.{ℕ, suc, _+_, _-_, _^_, _≤_, _<_}
 use lib.ListN.{length, set}
 use Rattle.refusal.specs.Refusals.{sound}
 use Rattle.task.specs.declared.Task.{Task}
 use Rattle.task.specs.Tasks.{task, latest, hyperperiod, load}
 use Rattle.task.specs.Checks.{firstRefusal}
 use Rattle.schedule.specs.declared.Policy.{Policy}
-use Rattle.schedule.specs.Job.{isIdle, one-if, count, FirstMiss}
+use Rattle.schedule.specs.Job.{idle as rest, isIdle, one-if, count, FirstMiss}
 use Rattle.schedule.specs.Endless.{endless, pickAt}
 use Rattle.answer.specs.Tables.{byteOf, filled, preempts}
 use Rattle.state.specs.State.{at, Unpacked, KeptAt, Clear, Sized}
+
+-- more than any instant that the engine reaches, and any count
+abbrev pub plenty : ℕ
+plenty = 2 ^ 32
 
 -- a list of n tasks that is not refused, with its numbers in arrays
 pub record Loaded (l : List Task) (n : ℕ) (run deadline period : List ℕ) : Type 0 where
@@ -33,10 +37,10 @@ pub record Instant (p : Policy) (l : List Task) (t : ℕ) (owed next dues keys :
   pub clear : Clear p l t
   pub is-chosen : chosen ≡ pickAt p l t
 
--- the chosen task, or 255, stored at a place of a table, and one more idle slot counted in the second case
+-- the chosen task, or the mark of an idle slot, stored at a place of a table, and one more idle slot counted in the second case
 pub record Put (n chosen place : ℕ) (table table′ : List ℕ) (idle idle′ : ℕ) : Type 0 where
   pub busy : chosen < n → (table′ ≡ set table place chosen) × (idle′ ≡ idle)
-  pub rests : n ≤ chosen → (table′ ≡ set table place 255) × (idle′ ≡ idle + 1)
+  pub rests : n ≤ chosen → (table′ ≡ set table place (byteOf rest)) × (idle′ ≡ idle + 1)
 
 -- slot t is given and written, and the next instant reached: a task misses there, or nothing does and the next slot is chosen
 pub record Stepped (p : Policy) (l : List Task) (t place : ℕ) (table table′ : List ℕ) (idle idle′ preemptions preemptions′ missed : ℕ)
