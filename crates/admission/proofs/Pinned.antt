@@ -3,7 +3,12 @@ use mathlib.Core.Path.{_≡_, sym, ap, ap₂, _∙_}
 use mathlib.Core.List.{List}
 use Prim.Native.Nat.{ℕ}
 use native.Mathlib.Omega.{arith}
+use lib.ListN.{length}
 use Rattle.task.specs.declared.Task.{Task}
+use Rattle.task.specs.declared.list.Tasks.{Tasks}
+use Rattle.task.specs.Limits.{mostTasks}
+use Rattle.task.specs.Tasks.{Holds}
+use Rattle.task.proofs.Held.{held}
 use Rattle.refusal.specs.Refusals.{numberOf, refused}
 use Rattle.refusal.proofs.Pinned.{number-once}
 use Rattle.admission.specs.declared.Admission.{Admission}
@@ -19,3 +24,8 @@ admits-once l startup cycle (Refused r i) (Sound m) x y =
 admits-once l startup cycle (Sound m) (Refused r i) x y =
     let z : _≡_ {A = ℕ} 0 1 = cc (y, x .no-refusal) in absurd (omega arith)
 admits-once l startup cycle (Sound m) (Sound k) x y = ap Sound (x .measured ∙ sym (y .measured))
+
+-- and so for the array that is handed over, since it holds a list
+pub admit-pinned : (ts : Tasks) → length (ts .items) ≡ mostTasks → (startup cycle : ℕ) (a a′ : Admission) →
+    ((l : List Task) → Holds ts l → Admits l startup cycle a) → ((l : List Task) → Holds ts l → Admits l startup cycle a′) → a ≡ a′
+admit-pinned ts full startup cycle a a′ x y = let h = held ts full in admits-once _ startup cycle a a′ (x _ h) (y _ h)

@@ -4,6 +4,7 @@ use mathlib.Core.List.{List, [], _∷_, map, List·Memᴰ, List·Memᴰ·head, L
 use Prim.Native.Nat.{ℕ}
 use lib.ListN.{replicate}
 use Rattle.task.specs.declared.Task.{Task}
+use Rattle.task.specs.Tasks.{taskOf}
 use Rattle.schedule.specs.declared.Policy.{Policy}
 use Rattle.schedule.specs.declared.Policy.the-variants.{ListOrder, RateMonotonic, DeadlineMonotonic, Edf}
 use Rattle.answer.specs.Answers.{Row, overloaded, missed, feasible}
@@ -17,9 +18,6 @@ pub record Entry : Type 0 where
   pub startup : List ℕ
   pub cycle : List ℕ
   pub due-back : Outcome
-
-abbrev pub of : ℕ → ℕ → ℕ → ℕ → Task
-of O C D T = record { offset = O; run = C; deadline = D; period = T }
 
 abbrev pub plan : ℕ → ℕ → ℕ → ℕ → ℕ → ℕ → ℕ → Row
 plan M H L idle₁ idle₂ pre₁ pre₂ = feasible (record {
@@ -52,18 +50,18 @@ any f rest = f ListOrder ∷ f RateMonotonic ∷ f DeadlineMonotonic ∷ f Edf �
 
 abbrev pub table : List Entry
 table =
-    any (λ p. entry p (of 0 1 1 1 ∷ []) 2 2 (plan 0 1 1 0 0 0 0) (0 ∷ old 1) (0 ∷ old 1))
-    (entry Edf (of 0 2 4 4 ∷ of 1 1 2 4 ∷ []) 6 5 (plan 1 4 3 1 1 2 1) (0 ∷ 1 ∷ 0 ∷ 255 ∷ 0 ∷ old 1) (1 ∷ 0 ∷ 255 ∷ 0 ∷ old 1)
-    ∷ entry Edf (of 0 2 4 4 ∷ of 3 2 4 4 ∷ []) 7 4 (plan 3 4 4 1 0 0 0) (0 ∷ 0 ∷ 255 ∷ 1 ∷ 1 ∷ 0 ∷ 0 ∷ []) (1 ∷ 1 ∷ 0 ∷ 0 ∷ [])
-    ∷ entry Edf (of 0 1 1 2 ∷ of 0 1 1 2 ∷ []) 2 2 (missed 1 1) (0 ∷ old 1) (old 2)
-    ∷ entry Edf (of 0 1 1 2 ∷ of 1 1 1 2 ∷ []) 3 2 (plan 1 2 2 0 0 0 0) (0 ∷ 1 ∷ 0 ∷ []) (1 ∷ 0 ∷ [])
-    ∷ entry Edf (of 0 1 1 4 ∷ of 0 1 1 4 ∷ of 0 1 1 4 ∷ []) 4 4 (missed 1 1) (0 ∷ old 3) (old 4)
-    ∷ entry Edf (of 0 1 1 4 ∷ of 4 1 1 4 ∷ []) 8 4 (missed 1 5) (0 ∷ 255 ∷ 255 ∷ 255 ∷ 0 ∷ old 3) (old 4)
-    ∷ any (λ p. entry p (of 0 1 1 1 ∷ of 0 1 2 2 ∷ []) 2 2 (overloaded 3 2) (old 2) (old 2))
-    (entry RateMonotonic (of 0 2 5 5 ∷ of 0 4 7 7 ∷ []) 35 35 (missed 1 7) (0 ∷ 0 ∷ 1 ∷ 1 ∷ 1 ∷ 0 ∷ 0 ∷ old 28) (old 35)
-    ∷ entry ListOrder (of 0 4 7 7 ∷ of 0 2 5 5 ∷ []) 35 35 (missed 1 5) (0 ∷ 0 ∷ 0 ∷ 0 ∷ 1 ∷ old 30) (old 35)
-    ∷ entry RateMonotonic (of 0 4 7 7 ∷ of 0 2 5 5 ∷ []) 35 35 (missed 0 7) (1 ∷ 1 ∷ 0 ∷ 0 ∷ 0 ∷ 1 ∷ 1 ∷ old 28) (old 35)
-    ∷ entry Edf (of 1 1 3 4 ∷ of 0 2 4 4 ∷ []) 5 4 (plan 1 4 3 1 1 2 1) (1 ∷ 0 ∷ 1 ∷ 255 ∷ 1 ∷ []) (0 ∷ 1 ∷ 255 ∷ 1 ∷ [])
+    any (λ p. entry p (taskOf 0 1 1 1 ∷ []) 2 2 (plan 0 1 1 0 0 0 0) (0 ∷ old 1) (0 ∷ old 1))
+    (entry Edf (taskOf 0 2 4 4 ∷ taskOf 1 1 2 4 ∷ []) 6 5 (plan 1 4 3 1 1 2 1) (0 ∷ 1 ∷ 0 ∷ 255 ∷ 0 ∷ old 1) (1 ∷ 0 ∷ 255 ∷ 0 ∷ old 1)
+    ∷ entry Edf (taskOf 0 2 4 4 ∷ taskOf 3 2 4 4 ∷ []) 7 4 (plan 3 4 4 1 0 0 0) (0 ∷ 0 ∷ 255 ∷ 1 ∷ 1 ∷ 0 ∷ 0 ∷ []) (1 ∷ 1 ∷ 0 ∷ 0 ∷ [])
+    ∷ entry Edf (taskOf 0 1 1 2 ∷ taskOf 0 1 1 2 ∷ []) 2 2 (missed 1 1) (0 ∷ old 1) (old 2)
+    ∷ entry Edf (taskOf 0 1 1 2 ∷ taskOf 1 1 1 2 ∷ []) 3 2 (plan 1 2 2 0 0 0 0) (0 ∷ 1 ∷ 0 ∷ []) (1 ∷ 0 ∷ [])
+    ∷ entry Edf (taskOf 0 1 1 4 ∷ taskOf 0 1 1 4 ∷ taskOf 0 1 1 4 ∷ []) 4 4 (missed 1 1) (0 ∷ old 3) (old 4)
+    ∷ entry Edf (taskOf 0 1 1 4 ∷ taskOf 4 1 1 4 ∷ []) 8 4 (missed 1 5) (0 ∷ 255 ∷ 255 ∷ 255 ∷ 0 ∷ old 3) (old 4)
+    ∷ any (λ p. entry p (taskOf 0 1 1 1 ∷ taskOf 0 1 2 2 ∷ []) 2 2 (overloaded 3 2) (old 2) (old 2))
+    (entry RateMonotonic (taskOf 0 2 5 5 ∷ taskOf 0 4 7 7 ∷ []) 35 35 (missed 1 7) (0 ∷ 0 ∷ 1 ∷ 1 ∷ 1 ∷ 0 ∷ 0 ∷ old 28) (old 35)
+    ∷ entry ListOrder (taskOf 0 4 7 7 ∷ taskOf 0 2 5 5 ∷ []) 35 35 (missed 1 5) (0 ∷ 0 ∷ 0 ∷ 0 ∷ 1 ∷ old 30) (old 35)
+    ∷ entry RateMonotonic (taskOf 0 4 7 7 ∷ taskOf 0 2 5 5 ∷ []) 35 35 (missed 0 7) (1 ∷ 1 ∷ 0 ∷ 0 ∷ 0 ∷ 1 ∷ 1 ∷ old 28) (old 35)
+    ∷ entry Edf (taskOf 1 1 3 4 ∷ taskOf 0 2 4 4 ∷ []) 5 4 (plan 1 4 3 1 1 2 1) (1 ∷ 0 ∷ 1 ∷ 255 ∷ 1 ∷ []) (0 ∷ 1 ∷ 255 ∷ 1 ∷ [])
     ∷ []))
 
 abbrev modelOf : Entry → Outcome

@@ -1,6 +1,9 @@
 // What comes back from a check. Document 01, "What comes back".
 use refusal::Refusal;
 
+// A table entry of an idle slot; any other entry is a task number.
+pub const IDLE: u8 = 255;
+
 // What is said of a feasible list: M, H and L, and the counts of the two parts.
 pub struct Plan {
     pub latest: usize,

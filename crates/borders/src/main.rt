@@ -1,4 +1,4 @@
-// The borders of document 01 that concern a list by itself, run. What has to be printed, in `stdout`, was read off the paper.
+// The borders of document 01 that concern a list by itself, run. What has to be printed, in `stdout`, was read off the paper, or worked out by hand from its rules.
 use admission::Admission;
 use libc::STDOUT_FILENO;
 use task::Task;

@@ -1,1 +1,2 @@
 pub mod Admitted
+pub mod Pinned

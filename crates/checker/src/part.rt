@@ -1,9 +1,10 @@
-// The parts of one slot: who is late, who is released, who is next, who is served.
+// The parts of one slot: who is late, who is next, who is served, and by which key.
 ghost use mathlib.Core.Path.{_≡_};
-ghost use Prim.Native.Nat.{ℕ, _-_, _^_, _≤_, _<_};
+ghost use Prim.Native.Nat.{ℕ, _-_, _≤_, _<_};
 ghost use lib.ListN.{length};
-ghost use Rattle.task.specs.Limits.{mostTasks};
-ghost use Rattle.state.specs.State.{at, First, Late, Picked, Served, keyFrom};
+ghost use Rattle.task.specs.Limits.{largest, mostTasks};
+ghost use Rattle.schedule.specs.Job.{keyFrom};
+ghost use Rattle.state.specs.State.{at, First, Late, Picked, Served};
 use schedule::Policy;
 use task::Task;
 
@@ -30,7 +31,7 @@ pub(crate) fn late(
 // The task whose job goes first: the least key, the lower number where keys are equal; n where no job is ready.
 pub(crate) fn pick(owed: &[usize; Task::MOST], keys: &[usize; Task::MOST], n: usize) -> usize
     requires { ⌜ n ≤ mostTasks ⌝ }
-    requires { ⌜ ((i : ℕ) → i < n → 0 < at (now owed) i → at (now keys) i < 2 ^ 64 - 1) ⌝ }
+    requires { ⌜ ((i : ℕ) → i < n → 0 < at (now owed) i → at (now keys) i < largest) ⌝ }
     ensures { λ r. ⌜ Picked (now (owed .entry)) (now (keys .entry)) n r ⌝ }
 {
     let mut best = n;

@@ -13,6 +13,7 @@ use crate::part::late;
 use crate::part::pick;
 use crate::part::serve;
 use crate::release::release;
+use answer::IDLE;
 use schedule::Policy;
 use task::Task;
 
@@ -24,8 +25,6 @@ pub(crate) struct Now {
     pub missed: usize,
     pub instant: usize,
 }
-
-const IDLE: u8 = 255;
 
 // Misses are noted before releases happen: a late job would be overwritten and look done.
 pub(crate) fn step(

@@ -1,4 +1,4 @@
-// The lists of document 01, "Lists to try", run. What has to be printed, in `stdout`, was read off the paper.
+// The lists of document 01, "Lists to try", run. What has to be printed, in `stdout`, was read off the paper, or worked out by hand from its rules.
 // A buffer is filled with 99 first, so that an entry that is written where none belongs is seen.
 use answer::Answer;
 use answer::Plan;
@@ -142,13 +142,14 @@ fn lists_f_to_h() {
         8,
         4,
     );
-    two(
-        Task::new(0, 1, 1, 1),
-        Task::new(0, 1, 2, 2),
-        Policy::RateMonotonic,
-        2,
-        2,
-    );
+    list_h(Policy::ListOrder);
+    list_h(Policy::RateMonotonic);
+    list_h(Policy::DeadlineMonotonic);
+    list_h(Policy::Edf);
+}
+
+fn list_h(policy: Policy) {
+    two(Task::new(0, 1, 1, 1), Task::new(0, 1, 2, 2), policy, 2, 2);
 }
 
 // Lists i, k under both policies, and l.

@@ -1,5 +1,5 @@
 -- How the kept numbers move from an instant to the next: a slot is served, misses are noted, releases happen, the next slot is chosen.
-use mathlib.Core.Path.{_≡_, refl, sym, ap, _∙_}
+use mathlib.Core.Path.{_≡_, sym, ap, _∙_}
 use mathlib.Core.List.{List}
 use mathlib.Core.Logic.{_⊎_, inl, inr, _↔_}
 use Prim.Native.Nat.{ℕ, zero, suc, _+_, _*_, _/_, _≤_, _<_}
@@ -10,21 +10,14 @@ use lib.ListN.{length}
 use Rattle.task.specs.declared.Task.{Task}
 use Rattle.task.specs.Tasks.{task}
 use Rattle.schedule.specs.declared.Policy.{Policy}
-use Rattle.schedule.specs.declared.Policy.the-variants.{ListOrder, RateMonotonic, DeadlineMonotonic, Edf}
-use Rattle.schedule.specs.Job.{release, due, keyOf, Miss, FirstMiss}
+use Rattle.schedule.specs.Job.{release, due, keyFrom, keyOf, Miss, FirstMiss}
 use Rattle.schedule.specs.Endless.{arrived, served, endless, pickAt}
 use Rattle.schedule.proofs.Arrivals.{div-mono, upTo-iff, upTo-few}
 use Rattle.schedule.proofs.Run.{Sound, Waits, Run, had-mono}
 use Rattle.schedule.proofs.Chosen.{hadBy, endless-run}
 use Rattle.schedule.proofs.Keys.{aheadOf}
 use Rattle.schedule.proofs.Schedule.{endless-late, endless-miss}
-use Rattle.state.specs.State.{at, Unpacked, present, before, Working, KeptBefore, KeptAt, Clear, First, Late, Picked, Served, keyFrom, Released}
-
-key-from : (p : Policy) (i : ℕ) (τ : Task) (k : ℕ) → keyFrom p i (τ .period) (τ .deadline) (due τ k) ≡ keyOf p i τ k
-key-from ListOrder i τ k = refl
-key-from RateMonotonic i τ k = refl
-key-from DeadlineMonotonic i τ k = refl
-key-from Edf i τ k = refl
+use Rattle.state.specs.State.{at, Unpacked, present, before, Working, KeptBefore, KeptAt, Clear, First, Late, Picked, Served, Released}
 
 not-both : (a b i j : ℕ) → (a < b) ⊎ ((a ≡ b) × (i < j)) → (b < a) ⊎ ((b ≡ a) × (j ≤ i)) → ⊥
 not-both a b i j (inl x) (inl y) = omega arith
@@ -199,7 +192,7 @@ module _ (p : Policy) {l : List Task} {H : ℕ} (w : Sound l H) where
         works = λ h. record {
           last = ap suc k ∙ sym g;
           due-is = R .2 ∙ rw (u .deadline-is i b) its-due ∙ ap (due τ) (sym k);
-          key-is = R .3 ∙ rw (u .period-is i b, u .deadline-is i b, its-due) (key-from p i τ (before τ t) ∙ ap (keyOf p i τ) (sym k));
+          key-is = R .3 ∙ rw (u .period-is i b, u .deadline-is i b, its-due) (ap (keyOf p i τ) (sym k));
         };
       }
         where

@@ -2,7 +2,7 @@
 use mathlib.Core.Path.{_≡_, refl, sym}
 use mathlib.Core.List.{List}
 use mathlib.Core.Logic.{_⊎_, inl, inr}
-use Prim.Native.Nat.{ℕ, _+_, _-_, _^_, _≤_, _<_}
+use Prim.Native.Nat.{ℕ, _+_, _-_, _≤_, _<_}
 use native.Mathlib.Nat.{le-refl}
 use native.Mathlib.Decide.{decLt, ℕ-discrete}
 use native.Mathlib.Omega.{arith}
@@ -10,6 +10,7 @@ use borrow.Author.Count.{below-more}
 use lib.Dec.{eqb}
 use lib.ListN.{length, set, length-set}
 use lib.Seq.{getD-set-same, getD-set-other}
+use Rattle.task.specs.Limits.{largest}
 use Rattle.schedule.specs.Job.{one-if}
 use Rattle.schedule.proofs.Sums.{one-eq, one-ne}
 use Rattle.state.specs.State.{at, Picked, Served}
@@ -51,11 +52,11 @@ pub record SoFar (owed keys : List ℕ) (n i best least : ℕ) : Type 0 where
   pub passed : best < n → best < i
   pub waits : best < n → 0 < at owed best
   pub its-key : best < n → least ≡ at keys best
-  pub largest : n ≤ best → least ≡ 2 ^ 64 - 1
+  pub largest : n ≤ best → least ≡ largest
   pub lowest : best < n → (j : ℕ) → j < i → 0 < at owed j → (at keys best < at keys j) ⊎ ((at keys best ≡ at keys j) × (best ≤ j))
   pub none : n ≤ best → (j : ℕ) → j < i → 0 < at owed j → ⊥
 
-pub so-far-start : (owed keys : List ℕ) (n : ℕ) → SoFar owed keys n 0 n (2 ^ 64 - 1)
+pub so-far-start : (owed keys : List ℕ) (n : ℕ) → SoFar owed keys n 0 n largest
 so-far-start owed keys n = record {
   within = omega arith;
   passed = λ h. absurd (omega arith);
@@ -87,7 +88,7 @@ module _ (owed keys : List ℕ) (n i best least : ℕ) (b : i < n) (s : SoFar ow
   pub so-far-none : at owed i ≡ 0 → SoFar owed keys n (i + 1) best least
   so-far-none e = keeps (λ q. absurd (omega arith)) (λ h q. absurd (omega arith))
 
-  pub so-far-kept : at keys i < 2 ^ 64 - 1 → least ≤ at keys i → SoFar owed keys n (i + 1) best least
+  pub so-far-kept : at keys i < largest → least ≤ at keys i → SoFar owed keys n (i + 1) best least
   so-far-kept small le = keeps
       (λ q. elim (decLt best n) [ yes h ↦ h | no h ↦ absurd (omega (arith, s .largest (omega arith))) ])
       (λ h q. elim (decLt (at keys best) (at keys i)) [

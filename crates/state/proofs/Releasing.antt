@@ -11,7 +11,8 @@ use lib.ListN.{length, set, length-set}
 use lib.Seq.{getD-set-same, getD-set-other}
 use Rattle.task.specs.Limits.{mostTasks}
 use Rattle.schedule.specs.declared.Policy.{Policy}
-use Rattle.state.specs.State.{at, keyFrom, Released, Sized, setIf, Stored, AllReleased}
+use Rattle.schedule.specs.Job.{keyFrom}
+use Rattle.state.specs.State.{at, Released, Sized, setIf, Stored, AllReleased}
 
 setIf-size : (b : Bool) (l : List ℕ) (i v : ℕ) → length (setIf b l i v) ≡ length l
 setIf-size true l i v = length-set l i v

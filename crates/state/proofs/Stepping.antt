@@ -2,14 +2,14 @@
 use mathlib.Core.Path.{_≡_, refl, sym, ap, _∙_}
 use mathlib.Core.List.{List}
 use mathlib.Core.Bool.{not, _&&_}
-use Prim.Native.Nat.{ℕ, suc, _+_, _-_, _^_, _≤_, _<_}
+use Prim.Native.Nat.{ℕ, suc, _+_, _≤_, _<_}
 use native.Mathlib.Numerals.{add-one}
 use native.Mathlib.Decide.{decLt}
 use native.Mathlib.Omega.{arith}
 use lib.Dec.{eqb, ltb}
 use lib.ListN.{length, set}
 use Rattle.task.specs.declared.Task.{Task}
-use Rattle.task.specs.Limits.{mostTasks}
+use Rattle.task.specs.Limits.{largest, mostTasks}
 use Rattle.task.specs.Tasks.{task, hyperperiod}
 use Rattle.task.proofs.Refusing.{Fine, Passed, passed}
 use Rattle.schedule.specs.declared.Policy.{Policy}
@@ -38,20 +38,20 @@ module _ {l : List Task} {n : ℕ} {run deadline period : List ℕ} (L : Loaded 
   few = omega (arith, L .counted, ok .few)
 
   -- the keys that are looked at are small
-  key-small : (p : Policy) (t i k : ℕ) → i < length l → k < arrived (task l i) t → t < plenty → keyOf p i (task l i) k < 2 ^ 64 - 1
+  key-small : (p : Policy) (t i k : ℕ) → i < length l → k < arrived (task l i) t → t < plenty → keyOf p i (task l i) k < largest
   key-small p t i k b h q = go p
     where
       F : Fine (task l i)
       F = ok .fine i b
 
-      go : (p : Policy) → keyOf p i (task l i) k < 2 ^ 64 - 1
+      go : (p : Policy) → keyOf p i (task l i) k < largest
       go ListOrder = omega (arith, ok .few)
       go RateMonotonic = omega (arith, F .short)
       go DeadlineMonotonic = omega (arith, F .within, F .short)
       go Edf = omega (arith, F .within, F .short, upTo-iff (task l i .offset) (task l i .period) (F .live) t k .0 h)
 
   pub keys-small : {p : Policy} {t : ℕ} {owed next dues keys : List ℕ} → t < plenty → KeptAt p l t owed next dues keys →
-      (i : ℕ) → i < n → 0 < at owed i → at keys i < 2 ^ 64 - 1
+      (i : ℕ) → i < n → 0 < at owed i → at keys i < largest
   keys-small {p} {t} q x i b h =
       let il : i < length l = omega (arith, L .counted) in
       let W = x .working i il h in

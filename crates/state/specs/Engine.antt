@@ -1,4 +1,4 @@
--- What one slot, and a stretch of slots, make of what the slot engine keeps. Only the engine's proofs cite it.
+-- What one slot, and a stretch of slots, make of what the slot engine keeps. Only the engine's contracts and proofs cite it.
 use mathlib.Core.Path.{_≡_}
 use mathlib.Core.List.{List}
 use Prim.Native.Nat.{ℕ, suc, _+_, _-_, _^_, _≤_, _<_}

@@ -1,5 +1,5 @@
 -- What the slot engine keeps for each task, and what its parts find. A reader of the promise need not read this: it says nothing that the
--- promise leans on, and only the engine's proofs cite it.
+-- promise leans on, and only the engine's contracts and proofs cite it.
 use mathlib.Core.Path.{_≡_}
 use mathlib.Core.List.{List}
 use mathlib.Core.Bool.{Bool, true, false}
@@ -11,8 +11,7 @@ use Rattle.task.specs.declared.Task.{Task}
 use Rattle.task.specs.Limits.{mostTasks}
 use Rattle.task.specs.Tasks.{task}
 use Rattle.schedule.specs.declared.Policy.{Policy}
-use Rattle.schedule.specs.declared.Policy.the-variants.{ListOrder, RateMonotonic, DeadlineMonotonic, Edf}
-use Rattle.schedule.specs.Job.{release, due, one-if, keyOf, Miss}
+use Rattle.schedule.specs.Job.{release, due, one-if, keyFrom, keyOf, Miss}
 use Rattle.schedule.specs.Endless.{arrived, served, endless}
 
 -- number i of an array
@@ -96,13 +95,6 @@ pub record Served (n c : ℕ) (owed owed′ : List ℕ) (r : ℕ) : Type 0 where
   pub left : c < n → 0 < at owed′ c → r ≡ c
   pub done : (c < n → at owed′ c ≡ 0) → r ≡ n
   pub sized : length owed′ ≡ length owed
-
--- what a policy orders a job of task i by, from the numbers of the task and the instant at which the job is due
-abbrev pub keyFrom : Policy → ℕ → ℕ → ℕ → ℕ → ℕ
-keyFrom ListOrder i period deadline d = i
-keyFrom RateMonotonic i period deadline d = period
-keyFrom DeadlineMonotonic i period deadline d = deadline
-keyFrom Edf i period deadline d = d
 
 -- what a release at t makes of the four numbers of task i
 pub record Released (p : Policy) (i run deadline period t owed next d k owed′ next′ d′ k′ : ℕ) : Type 0 where

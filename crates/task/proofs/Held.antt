@@ -1,14 +1,14 @@
 -- The lists that an array with a count holds: every array holds one, and with one task more it holds that list with the task at its end.
 use mathlib.Core.Path.{_≡_, refl, sym, ap, _∙_}
 use mathlib.Core.List.{List, [], _∷_, _++_, append-nil}
-use Prim.Native.Nat.{suc, _-_, _^_, _≤_, _<_, min}
+use Prim.Native.Nat.{suc, _-_, _≤_, _<_, min}
 use native.Mathlib.Decide.{decLt}
 use native.Mathlib.Omega.{arith}
 use lib.ListN.{length, take, set, replicate, length-append, length-take, length-replicate}
 use lib.Seq.{take-all, take-at, take-suc-set, take-append-le, set-out}
 use Rattle.task.specs.declared.Task.{Task}
 use Rattle.task.specs.declared.list.Tasks.{Tasks}
-use Rattle.task.specs.Limits.{mostTasks}
+use Rattle.task.specs.Limits.{largest, mostTasks}
 use Rattle.task.specs.Tasks.{nobody, Holds, empty, added}
 
 pub held-none : Holds empty []
@@ -55,9 +55,9 @@ module _ (ts : Tasks) (full : length (ts .items) ≡ mostTasks) where
         ∙ h .begins
         ∙ sym (take-append-le mostTasks l (τ ∷ []) (omega (arith, h .counted)))
 
-    pub held-with : length l < 2 ^ 64 - 1 → Holds (added ts τ) (l ++ (τ ∷ []))
+    pub held-with : length l < largest → Holds (added ts τ) (l ++ (τ ∷ []))
     held-with b =
-        let n : min (suc (ts .count)) (2 ^ 64 - 1) ≡ suc (ts .count) = omega (arith, h .counted) in
+        let n : min (suc (ts .count)) largest ≡ suc (ts .count) = omega (arith, h .counted) in
         record {
           counted = rw length-append (omega (arith, h .counted));
           begins = rw n (elim (decLt (ts .count) mostTasks) [ yes q ↦ with-room q | no q ↦ with-none (omega arith) ]);

@@ -1,11 +1,11 @@
 -- What is read off a task list: its tasks, M, H and L. Document 01, "What a task list says" and "How far to look".
 use mathlib.Core.Path.{_≡_}
 use mathlib.Core.List.{List, [], _∷_}
-use Prim.Native.Nat.{ℕ, zero, suc, _+_, _*_, _/_, _<_, _∣_, _^_, _-_, min, max}
+use Prim.Native.Nat.{ℕ, zero, suc, _+_, _*_, _/_, _<_, _∣_, min, max}
 use lib.ListN.{length, getD, take, set, replicate}
 use Rattle.task.specs.declared.Task.{Task}
 use Rattle.task.specs.declared.list.Tasks.{Tasks}
-use Rattle.task.specs.Limits.{mostTasks}
+use Rattle.task.specs.Limits.{largest, mostTasks}
 use Rattle.divisor.specs.Divisors.{lcm}
 
 -- offset O, run time C, deadline D, period T
@@ -68,4 +68,4 @@ empty = record { items = replicate mostTasks nobody; count = 0 }
 
 -- one task more, in its place if the array has one; the largest count that there is stays
 abbrev pub added : Tasks → Task → Tasks
-added ts τ = record { items = set (ts .items) (ts .count) τ; count = min (suc (ts .count)) (2 ^ 64 - 1) }
+added ts τ = record { items = set (ts .items) (ts .count) τ; count = min (suc (ts .count)) largest }
