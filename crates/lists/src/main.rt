@@ -78,110 +78,70 @@ fn show(list: Tasks, policy: Policy, startup: usize, cycle: usize) {
     }
 }
 
-fn one(task: Task, policy: Policy) {
-    show(Tasks::none().with(task), policy, 2, 2);
+// Two tasks, O C D T each, and buffers of these lengths.
+fn two(
+    o: usize,
+    c: usize,
+    d: usize,
+    t: usize,
+    o1: usize,
+    c1: usize,
+    d1: usize,
+    t1: usize,
+    policy: Policy,
+    startup: usize,
+    cycle: usize,
+) {
+    let list = Tasks::none()
+        .with(Task::new(o, c, d, t))
+        .with(Task::new(o1, c1, d1, t1));
+    show(list, policy, startup, cycle);
 }
 
-// Two tasks, and buffers of these lengths.
-fn two(a: Task, b: Task, policy: Policy, startup: usize, cycle: usize) {
-    show(Tasks::none().with(a).with(b), policy, startup, cycle);
+// One task n times.
+fn times(
+    n: usize,
+    o: usize,
+    c: usize,
+    d: usize,
+    t: usize,
+    policy: Policy,
+    startup: usize,
+    cycle: usize,
+) {
+    let task = Task::new(o, c, d, t);
+    let mut list = Tasks::none();
+    for _ in 0..n {
+        list = list.with(task);
+    }
+    show(list, policy, startup, cycle);
 }
 
-// List a, under each policy.
-fn list_a() {
-    one(Task::new(0, 1, 1, 1), Policy::ListOrder);
-    one(Task::new(0, 1, 1, 1), Policy::RateMonotonic);
-    one(Task::new(0, 1, 1, 1), Policy::DeadlineMonotonic);
-    one(Task::new(0, 1, 1, 1), Policy::Edf);
+// Lists a and h are for any policy.
+fn any(policy: Policy) {
+    times(1, 0, 1, 1, 1, policy, 2, 2);
+    two(0, 1, 1, 1, 0, 1, 2, 2, policy, 2, 2);
 }
 
 // Lists b to e; b in buffers that are longer by one.
 fn lists_b_to_e() {
-    two(
-        Task::new(0, 2, 4, 4),
-        Task::new(1, 1, 2, 4),
-        Policy::Edf,
-        6,
-        5,
-    );
-    two(
-        Task::new(0, 2, 4, 4),
-        Task::new(3, 2, 4, 4),
-        Policy::Edf,
-        7,
-        4,
-    );
-    two(
-        Task::new(0, 1, 1, 2),
-        Task::new(0, 1, 1, 2),
-        Policy::Edf,
-        2,
-        2,
-    );
-    two(
-        Task::new(0, 1, 1, 2),
-        Task::new(1, 1, 1, 2),
-        Policy::Edf,
-        3,
-        2,
-    );
+    two(0, 2, 4, 4, 1, 1, 2, 4, Policy::Edf, 6, 5);
+    two(0, 2, 4, 4, 3, 2, 4, 4, Policy::Edf, 7, 4);
+    two(0, 1, 1, 2, 0, 1, 1, 2, Policy::Edf, 2, 2);
+    two(0, 1, 1, 2, 1, 1, 1, 2, Policy::Edf, 3, 2);
 }
 
-fn lists_f_to_h() {
-    let task = Task::new(0, 1, 1, 4);
-    show(
-        Tasks::none().with(task).with(task).with(task),
-        Policy::Edf,
-        4,
-        4,
-    );
-    two(
-        Task::new(0, 1, 1, 4),
-        Task::new(4, 1, 1, 4),
-        Policy::Edf,
-        8,
-        4,
-    );
-    list_h(Policy::ListOrder);
-    list_h(Policy::RateMonotonic);
-    list_h(Policy::DeadlineMonotonic);
-    list_h(Policy::Edf);
-}
-
-fn list_h(policy: Policy) {
-    two(Task::new(0, 1, 1, 1), Task::new(0, 1, 2, 2), policy, 2, 2);
+fn lists_f_and_g() {
+    times(3, 0, 1, 1, 4, Policy::Edf, 4, 4);
+    two(0, 1, 1, 4, 4, 1, 1, 4, Policy::Edf, 8, 4);
 }
 
 // Lists i, k under both policies, and l.
 fn lists_i_to_l() {
-    two(
-        Task::new(0, 2, 5, 5),
-        Task::new(0, 4, 7, 7),
-        Policy::RateMonotonic,
-        35,
-        35,
-    );
-    two(
-        Task::new(0, 4, 7, 7),
-        Task::new(0, 2, 5, 5),
-        Policy::ListOrder,
-        35,
-        35,
-    );
-    two(
-        Task::new(0, 4, 7, 7),
-        Task::new(0, 2, 5, 5),
-        Policy::RateMonotonic,
-        35,
-        35,
-    );
-    two(
-        Task::new(1, 1, 3, 4),
-        Task::new(0, 2, 4, 4),
-        Policy::Edf,
-        5,
-        4,
-    );
+    two(0, 2, 5, 5, 0, 4, 7, 7, Policy::RateMonotonic, 35, 35);
+    two(0, 4, 7, 7, 0, 2, 5, 5, Policy::ListOrder, 35, 35);
+    two(0, 4, 7, 7, 0, 2, 5, 5, Policy::RateMonotonic, 35, 35);
+    two(1, 1, 3, 4, 0, 2, 4, 4, Policy::Edf, 5, 4);
 }
 
 // Of list j the paper gives H, L and the cycle's idle slots.
@@ -198,36 +158,22 @@ fn list_j() {
     }
 }
 
-// Short buffers, a list above the limit, and D above T under EDF: refused, and nothing is written.
+// Short buffers, a hyperperiod above the limit, D above T, and seventeen tasks: refused, and nothing is written.
 fn refused() {
-    two(
-        Task::new(0, 2, 4, 4),
-        Task::new(1, 1, 2, 4),
-        Policy::Edf,
-        4,
-        4,
-    );
-    two(
-        Task::new(0, 2, 4, 4),
-        Task::new(1, 1, 2, 4),
-        Policy::Edf,
-        5,
-        3,
-    );
-    two(
-        Task::new(0, 1, 128, 128),
-        Task::new(0, 1, 129, 129),
-        Policy::Edf,
-        2,
-        2,
-    );
-    one(Task::new(0, 2, 5, 4), Policy::Edf);
+    two(0, 2, 4, 4, 1, 1, 2, 4, Policy::Edf, 4, 4);
+    two(0, 2, 4, 4, 1, 1, 2, 4, Policy::Edf, 5, 3);
+    two(0, 1, 128, 128, 0, 1, 129, 129, Policy::Edf, 2, 2);
+    times(1, 0, 2, 5, 4, Policy::Edf, 2, 2);
+    times(17, 0, 1, 1, 1, Policy::Edf, 2, 2);
 }
 
 fn main() {
-    list_a();
+    any(Policy::ListOrder);
+    any(Policy::RateMonotonic);
+    any(Policy::DeadlineMonotonic);
+    any(Policy::Edf);
     lists_b_to_e();
-    lists_f_to_h();
+    lists_f_and_g();
     lists_i_to_l();
     list_j();
     refused();
