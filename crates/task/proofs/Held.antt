@@ -9,9 +9,10 @@ use lib.Seq.{take-all, take-at, take-suc-set, take-append-le, set-out}
 use Rattle.task.specs.declared.Task.{Task}
 use Rattle.task.specs.declared.list.Tasks.{Tasks}
 use Rattle.task.specs.Limits.{largest, mostTasks}
-use Rattle.task.specs.Tasks.{nobody, Holds, empty, added}
+use Rattle.task.specs.Tasks.{nobody, Holds, blank, empty, added}
 
 pub held-none : Holds empty []
+unfolding blank
 held-none = record { counted = refl; begins = refl }
 
 module _ (ts : Tasks) (full : length (ts .items) ≡ mostTasks) where

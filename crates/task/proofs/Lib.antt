@@ -2,3 +2,4 @@ pub mod Offsets
 pub mod Hyperperiods
 pub mod Refusing
 pub mod Held
+pub mod Copied

@@ -1,7 +1,7 @@
 // Our own array of tasks, with a count. Document 01, "What a task list says".
 ghost use mathlib.Core.Path.{_≡_};
 ghost use lib.ListN.{set};
-ghost use Rattle.task.specs.Tasks.{empty, added};
+ghost use Rattle.task.specs.Tasks.{blank, fitting, empty, stored, added};
 use crate::Task;
 
 // The count is the list's true length, also where that is more than the array holds.
@@ -11,22 +11,48 @@ pub struct Tasks {
 }
 
 impl Tasks {
+    // The array of a list of `count` tasks, none of which is in it yet.
+    pub fn sized(count: usize) -> Self
+        ensures { λ r. ⌜ r ≡ blank count ⌝ }
+    {
+        let nobody = Task::new(0, 0, 0, 0);
+        let items = [nobody; Task::MOST];
+        Self { items, count }
+    }
+
+    // How many of n tasks the array has room for.
+    pub fn room(n: usize) -> usize
+        ensures { λ r. ⌜ r ≡ fitting n ⌝ }
+    {
+        if n < Task::MOST { n } else { Task::MOST }
+    }
+
     // The list of no tasks.
     pub fn none() -> Self
         ensures { λ r. ⌜ r ≡ empty ⌝ }
     {
-        let blank = Task::new(0, 0, 0, 0);
-        let items = [blank; Task::MOST];
-        Self { items, count: 0 }
+        Tasks::sized(0)
+    }
+
+    // The array with a task in its place, if it has that place; the list's length stays.
+    pub fn put(self, at: usize, task: Task) -> Self
+        ensures { λ r. ⌜ r ≡ stored self at task ⌝ }
+    {
+        let held = self.items;
+        let items = placed(held, at, task);
+        Self {
+            items,
+            count: self.count,
+        }
     }
 
     // The list with one task more.
     pub fn with(self, task: Task) -> Self
         ensures { λ r. ⌜ r ≡ added self task ⌝ }
     {
-        let held = self.items;
         let at = self.count;
-        let items = placed(held, at, task);
+        let longer = self.put(at, task);
+        let items = longer.items;
         if at < usize::MAX {
             return Self {
                 items,

@@ -1,0 +1,9 @@
+-- One task, read off its four words: for the contract of the function that reads it. No promise needs it.
+use mathlib.Core.List.{List}
+use Prim.Native.Nat.{ℕ, _+_, _*_}
+use lib.ListN.{getD}
+use Rattle.task.specs.declared.Task.{Task}
+use Rattle.task.specs.Tasks.{taskOf}
+
+abbrev pub taskAt : List ℕ → ℕ → Task
+taskAt words i = taskOf (getD words (4 * i) 0) (getD words (4 * i + 1) 0) (getD words (4 * i + 2) 0) (getD words (4 * i + 3) 0)

@@ -1,0 +1,79 @@
+-- A call in 64-bit words, and what it is answered: for callers in C and Rust.
+use mathlib.Core.Path.{_≡_}
+use mathlib.Core.Bool.{Bool, true, false, not, _||_}
+use mathlib.Core.List.{List, [], _∷_, _++_}
+use Prim.Native.Nat.{ℕ, zero, suc, _%_}
+use lib.Dec.{eqb, ltb}
+use lib.ListN.{length, drop}
+use Rattle.task.specs.declared.Task.{Task}
+use Rattle.task.specs.Tasks.{taskOf}
+use Rattle.schedule.specs.declared.Policy.{Policy}
+use Rattle.schedule.specs.declared.Policy.the-variants.{ListOrder, RateMonotonic, DeadlineMonotonic, Edf}
+use Rattle.answer.specs.declared.Answer.{Answer}
+use Rattle.answer.specs.Answers.{Row, refused, overloaded, missed, feasible, row}
+use Rattle.answer.specs.Promise.{Promised, Unchanged}
+
+abbrev pub lastPolicy : ℕ
+lastPolicy = 3
+
+-- 0 list, 1 rate monotonic, 2 deadline monotonic, 3 earliest deadline first
+abbrev pub policyOf : ℕ → Policy
+policyOf zero = ListOrder
+policyOf (suc zero) = RateMonotonic
+policyOf (suc (suc zero)) = DeadlineMonotonic
+policyOf (suc (suc (suc n))) = Edf
+
+-- the tasks of a list of words, O C D T for each
+abbrev pub tasksOf : List ℕ → List Task
+tasksOf (O ∷ C ∷ D ∷ T ∷ words) = taskOf O C D T ∷ tasksOf words
+tasksOf (O ∷ C ∷ D ∷ []) = []
+tasksOf (O ∷ C ∷ []) = []
+tasksOf (O ∷ []) = []
+tasksOf [] = []
+
+-- 0 feasible, 1 missed, 2 overloaded, 3 refused
+abbrev pub code : Row → ℕ
+code (feasible q) = 0
+code (missed i d) = 1
+code (overloaded a b) = 2
+code (refused number i) = 3
+
+-- the answer's values, in the paper's order
+abbrev pub values : Row → List ℕ
+values (feasible q) =
+    q .latest ∷ q .hyperperiod ∷ q .load ∷ q .«startup_idle» ∷ q .«cycle_idle» ∷ q .«startup_preemptions» ∷ q .«cycle_preemptions» ∷ []
+values (missed i d) = i ∷ d ∷ []
+values (overloaded a b) = a ∷ b ∷ []
+values (refused number i) = number ∷ i ∷ []
+
+-- words not named keep their values
+abbrev pub written : Row → List ℕ → List ℕ
+written r words = values r ++ drop (length (values r)) words
+
+abbrev pub rowLength : ℕ
+rowLength = 8
+
+-- the policy is above 3, the words are not a multiple of four, or the answer's buffer is shorter than eight
+abbrev pub misread : ℕ → List ℕ → List ℕ → Bool
+misread policy list words = ltb lastPolicy policy || (not (eqb (length list % 4) 0) || ltb (length words) rowLength)
+
+-- `startup`, `cycle` and `words` are the buffers as they were lent, s, c and w as they are left
+module _ (policy : ℕ) (list startup cycle words : List ℕ) where
+  pub record NotUnderstood (n : ℕ) (s c w : List ℕ) : Type 0 where
+    pub is-code : n ≡ 4
+    pub tables : Unchanged startup cycle s c
+    pub words-kept : w ≡ words
+
+  pub record Understood (n : ℕ) (s c w : List ℕ) : Type 0 where
+    pub answer : Answer
+    pub promised : Promised (policyOf policy) (tasksOf list) startup cycle answer s c
+    pub is-code : n ≡ code (row answer)
+    pub is-written : w ≡ written (row answer) words
+
+  abbrev pub either : Bool → ℕ → List ℕ → List ℕ → List ℕ → Type 0
+  either true n s c w = NotUnderstood n s c w
+  either false n s c w = Understood n s c w
+
+  -- 4 exactly where the call is misread
+  abbrev pub Answered : ℕ → List ℕ → List ℕ → List ℕ → Type 0
+  Answered n s c w = either (misread policy list words) n s c w

@@ -1,0 +1,35 @@
+// For callers in C and Rust: the checker over 64-bit words. include/sholakpite.h says the same for C.
+mod row;
+mod words;
+
+ghost use Rattle.sholakpite.specs.Words.{Answered};
+use crate::row::tell;
+use crate::words::policy_of;
+use crate::words::tasks_of;
+
+// The code of a call that is not understood; then nothing is written.
+const NOT_UNDERSTOOD: u64 = 4;
+
+// Checks a list of words, O C D T for each task, under a policy by number, and gives the answer's code; its values go into `row`.
+#[no_mangle]
+pub extern "C" fn sholakpite_check(
+    policy: u64,
+    list: &[u64],
+    startup: &mut [u8],
+    cycle: &mut [u8],
+    row: &mut [u64],
+) -> u64
+    ensures { λ r. ⌜ Answered policy (now (list .entry)) (now (startup .entry)) (now (cycle .entry)) (now (row .entry)) r (now (startup .exit)) (now (cycle .exit)) (now (row .exit)) ⌝ }
+{
+    if words::LAST_POLICY < policy {
+        return NOT_UNDERSTOOD;
+    }
+    if list.len() % words::EACH != 0 {
+        return NOT_UNDERSTOOD;
+    }
+    if row.len() < row::LENGTH {
+        return NOT_UNDERSTOOD;
+    }
+    let answer = checker::check(tasks_of(list), policy_of(policy), startup, cycle);
+    tell(answer, row)
+}
