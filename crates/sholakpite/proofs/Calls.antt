@@ -12,7 +12,7 @@ use Rattle.answer.specs.declared.Answer.{Answer}
 use Rattle.answer.specs.Answers.{row}
 use Rattle.answer.specs.Promise.{Promised}
 use Rattle.answer.proofs.Pinned.{answer-pinned}
-use Rattle.sholakpite.specs.Words.{policyOf, tasksOf, code, written, misread, NotUnderstood, Understood, either, Answered}
+use Rattle.sholakpite.specs.Words.{policyOf, tasksOf, code, written, misread, either, Answered}
 
 module _ (policy : ℕ) (list startup cycle words : List ℕ) where
   pub not-understood : misread policy list words ≡ true → Answered policy list startup cycle words 4 startup cycle words

@@ -1,9 +1,9 @@
 -- Words read as numbers of policies and as tasks.
-use mathlib.Core.Path.{_≡_, refl, ap, _∙_}
+use mathlib.Core.Path.{_≡_, refl}
 use mathlib.Core.List.{List, [], _∷_}
 use Prim.Native.Nat.{ℕ, zero, suc, _+_, _*_, _/_, _<_, _≤_}
 use native.Mathlib.Omega.{arith}
-use lib.ListN.{length, getD}
+use lib.ListN.{length}
 use Rattle.task.specs.Tasks.{task}
 use Rattle.schedule.specs.declared.Policy.the-variants.{Edf}
 use Rattle.sholakpite.specs.Words.{policyOf, tasksOf}

@@ -1,14 +1,13 @@
 -- A list copied to the array task by task: from none to one more, and what the array then holds.
 use mathlib.Core.Path.{_≡_, refl, sym, ap, _∙_}
-use mathlib.Core.List.{List, [], _++_, append-nil}
-use Prim.Native.Nat.{ℕ, suc, _+_, _-_, _≤_, _<_, min}
+use mathlib.Core.List.{List, _++_, append-nil}
+use Prim.Native.Nat.{ℕ, suc, _+_, _-_, _<_}
 use native.Mathlib.Numerals.{add-one}
 use native.Mathlib.Decide.{decLt}
 use native.Mathlib.Omega.{arith}
 use lib.ListN.{length, take, set, replicate, length-take}
 use lib.Seq.{set-at, length-take-le, append-snoc, take-suc, take-at, take-all}
 use Rattle.task.specs.declared.Task.{Task}
-use Rattle.task.specs.declared.list.Tasks.{Tasks}
 use Rattle.task.specs.Limits.{mostTasks}
 use Rattle.task.specs.Tasks.{nobody, task, Holds, blank, stored, copied, fitting, arrayOf}
 

@@ -1,0 +1,30 @@
+// A list that is lent by the caller and only read. Document 01, "What a task list says".
+ghost use mathlib.Core.Path.{_≡_};
+ghost use Rattle.task.specs.Tasks.{arrayOf};
+ghost use Rattle.answer.specs.Promise.{Promised};
+use answer::Answer;
+use schedule::Policy;
+use task::Task;
+use task::list::Tasks;
+
+// As `checker::check`, for a lent list of any length.
+pub fn check(list: &[Task], policy: Policy, startup: &mut [u8], cycle: &mut [u8]) -> Answer
+    ensures { λ r. ⌜ Promised policy (now (list .entry)) (now (startup .entry)) (now (cycle .entry)) r (now (startup .exit)) (now (cycle .exit)) ⌝ }
+{
+    checker::check(load(list), policy, startup, cycle)
+}
+
+// The checker's own copy. No more tasks are read than it has room for.
+fn load(list: &[Task]) -> Tasks
+    ensures { λ r. ⌜ r ≡ arrayOf (now (list .entry)) ⌝ }
+{
+    let n = list.len();
+    let mut own = Tasks::sized(n);
+    let end = Tasks::room(n);
+    let mut i = 0;
+    while i < end {
+        own = own.put(i, list[i]);
+        i += 1;
+    }
+    own
+}
