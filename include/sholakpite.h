@@ -1,0 +1,59 @@
+/*
+ * Sholakpite: whether a list of periodic tasks ever misses a deadline on one core, and its slot tables.
+ *
+ * The function behind this header is written in Rattle and proved to meet its promise
+ * (crates/sholakpite/specs/Words.antt). This header is not: it is assumed to match.
+ */
+#ifndef SHOLAKPITE_H
+#define SHOLAKPITE_H
+
+#include <stddef.h>
+#include <stdint.h>
+
+#ifdef __cplusplus
+extern "C" {
+#endif
+
+/* Who gets the slot. */
+#define SHOLAKPITE_LIST_ORDER 0
+#define SHOLAKPITE_RATE_MONOTONIC 1
+#define SHOLAKPITE_DEADLINE_MONOTONIC 2
+#define SHOLAKPITE_EARLIEST_DEADLINE_FIRST 3
+
+/* What is answered, and the words of `row` that are then written, from row[0] on. */
+#define SHOLAKPITE_FEASIBLE 0   /* M, H, L, idle startup, idle cycle, preemptions startup, preemptions cycle */
+#define SHOLAKPITE_MISSED 1     /* task, instant */
+#define SHOLAKPITE_OVERLOADED 2 /* L, H */
+#define SHOLAKPITE_REFUSED 3    /* number, task */
+#define SHOLAKPITE_NOT_UNDERSTOOD 4
+
+/* The words that `row` needs at least, and the words of one task in `list`. */
+#define SHOLAKPITE_ROW 8
+#define SHOLAKPITE_TASK 4
+
+/* A table entry of an idle slot; any other is a task number. */
+#define SHOLAKPITE_IDLE 255
+
+/*
+ * Checks a list under a policy.
+ *
+ * list     O C D T for each task: offset, run time, deadline, period; list_len counts words. It is only read.
+ * startup  gets slots 0 to M + H - 1 of a feasible list, cycle the H slots after them, which repeat for ever.
+ *          Both may be longer than needed; entries that are not named keep their bytes.
+ * row      gets the answer's values; words that are not named keep their values.
+ *
+ * A list that can't be judged (no task, more than 16, a number outside its limits, a hyperperiod above 16,384) or
+ * a buffer that is too short is refused by number, and neither table is written.
+ * SHOLAKPITE_NOT_UNDERSTOOD, with nothing written, is answered exactly when policy is above 3, list_len is not a
+ * multiple of 4, or row_len is below 8.
+ *
+ * No pointer may be NULL, not even for a length of 0, and the four regions may not overlap.
+ */
+uint64_t sholakpite_check(uint64_t policy, const uint64_t *list, size_t list_len, uint8_t *startup, size_t startup_len,
+                          uint8_t *cycle, size_t cycle_len, uint64_t *row, size_t row_len);
+
+#ifdef __cplusplus
+}
+#endif
+
+#endif

@@ -1,0 +1,129 @@
+//! Whether a list of periodic tasks ever misses a deadline on one core, and its slot tables.
+//!
+//! A safe wrapper over `sholakpite_check`, which is written in Rattle and proved. The declaration below is not proved: it
+//! is assumed to match, as include/sholakpite.h is.
+
+extern "C" {
+    fn sholakpite_check(
+        policy: u64,
+        list: *const u64,
+        list_len: usize,
+        startup: *mut u8,
+        startup_len: usize,
+        cycle: *mut u8,
+        cycle_len: usize,
+        row: *mut u64,
+        row_len: usize,
+    ) -> u64;
+}
+
+/// A table entry of an idle slot; any other entry is a task number.
+pub const IDLE: u8 = 255;
+
+/// The words that the answer's values need.
+pub const ROW: usize = 8;
+
+/// A task: job k is released at `offset + k * period`, needs `run` slots, and is due `deadline` slots after its release.
+#[repr(C)]
+#[derive(Clone, Copy, Debug, PartialEq, Eq)]
+pub struct Task {
+    pub offset: u64,
+    pub run: u64,
+    pub deadline: u64,
+    pub period: u64,
+}
+
+/// Who gets the slot, by the number that `sholakpite_check` knows it by.
+#[derive(Clone, Copy, Debug, PartialEq, Eq)]
+pub enum Policy {
+    ListOrder = 0,
+    RateMonotonic = 1,
+    DeadlineMonotonic = 2,
+    EarliestDeadlineFirst = 3,
+}
+
+/// M, H and L of a feasible list, and the counts of its two tables.
+#[derive(Clone, Copy, Debug, PartialEq, Eq)]
+pub struct Plan {
+    pub latest: u64,
+    pub hyperperiod: u64,
+    pub load: u64,
+    pub startup_idle: u64,
+    pub cycle_idle: u64,
+    pub startup_preemptions: u64,
+    pub cycle_preemptions: u64,
+}
+
+#[derive(Clone, Copy, Debug, PartialEq, Eq)]
+pub enum Answer {
+    /// No deadline is ever missed, and the two tables are the schedule for all time.
+    Feasible(Plan),
+    /// The first miss.
+    Missed { task: u64, instant: u64 },
+    /// The tasks want more slots than there are.
+    Overloaded { load: u64, hyperperiod: u64 },
+    /// The list, or a buffer, is refused, by document 01's number.
+    Refused { number: u64, task: u64 },
+}
+
+/// Checks a list. `startup` needs M + H entries and `cycle` H; both may be longer, and entries that are not named keep
+/// their bytes.
+pub fn check(list: &[Task], policy: Policy, startup: &mut [u8], cycle: &mut [u8]) -> Answer {
+    let mut row = [0; ROW];
+    match check_words(policy as u64, words_of(list), startup, cycle, &mut row) {
+        0 => Answer::Feasible(Plan {
+            latest: row[0],
+            hyperperiod: row[1],
+            load: row[2],
+            startup_idle: row[3],
+            cycle_idle: row[4],
+            startup_preemptions: row[5],
+            cycle_preemptions: row[6],
+        }),
+        1 => Answer::Missed {
+            task: row[0],
+            instant: row[1],
+        },
+        2 => Answer::Overloaded {
+            load: row[0],
+            hyperperiod: row[1],
+        },
+        3 => Answer::Refused {
+            number: row[0],
+            task: row[1],
+        },
+        code => {
+            unreachable!("a call of four words a task and {ROW} for the row was answered {code}")
+        }
+    }
+}
+
+/// As C calls it: a list of words O C D T for each task, a policy by number, and a row of words for the answer's values.
+pub fn check_words(
+    policy: u64,
+    list: &[u64],
+    startup: &mut [u8],
+    cycle: &mut [u8],
+    row: &mut [u64],
+) -> u64 {
+    // A slice is never null, and the three that are written are borrowed from nobody else.
+    unsafe {
+        sholakpite_check(
+            policy,
+            list.as_ptr(),
+            list.len(),
+            startup.as_mut_ptr(),
+            startup.len(),
+            cycle.as_mut_ptr(),
+            cycle.len(),
+            row.as_mut_ptr(),
+            row.len(),
+        )
+    }
+}
+
+/// The same memory: a `Task` is four words in the paper's order, with no padding.
+fn words_of(list: &[Task]) -> &[u64] {
+    let each = size_of::<Task>() / size_of::<u64>();
+    unsafe { std::slice::from_raw_parts(list.as_ptr().cast(), list.len() * each) }
+}
