@@ -1,0 +1,257 @@
+//! A plain checker that walks the schedule slot by slot, as the paper tells it.
+
+/// Table entry of a slot that serves no job.
+pub const IDLE: u8 = 255;
+
+#[derive(Clone, Copy, Debug)]
+pub struct Task {
+    pub offset: u64,
+    pub run: u64,
+    pub deadline: u64,
+    pub period: u64,
+}
+
+#[derive(Clone, Copy, Debug, PartialEq, Eq)]
+pub enum Policy {
+    ListOrder,
+    RateMonotonic,
+    DeadlineMonotonic,
+    EarliestDeadlineFirst,
+}
+
+#[derive(Clone, Copy, Debug, PartialEq, Eq)]
+pub enum Answer {
+    Refused { number: u64, task: usize },
+    Overloaded { load: u64, hyperperiod: u64 },
+    Missed { task: usize, instant: u64 },
+    Feasible { frame: Frame, counts: Counts },
+}
+
+/// The numbers that say how far to look.
+#[derive(Clone, Copy, Debug, PartialEq, Eq)]
+pub struct Frame {
+    pub largest_offset: u64,
+    pub hyperperiod: u64,
+    pub load: u64,
+}
+
+#[derive(Clone, Copy, Debug, Default, PartialEq, Eq)]
+pub struct Counts {
+    pub idle_startup: u64,
+    pub idle_cycle: u64,
+    pub preemptions_startup: u64,
+    pub preemptions_cycle: u64,
+}
+
+/// What is known of one task while walking: its last released job.
+struct Job {
+    next_release: u64,
+    due: u64,
+    left: u64,
+    key: u64,
+}
+
+impl Task {
+    pub const MOST_TASKS: usize = 16;
+    pub const LONGEST_PERIOD: u64 = 16_384;
+    pub const LARGEST_OFFSET: u64 = 16_384;
+    pub const LONGEST_HYPERPERIOD: u64 = 16_384;
+
+    /// The number of the first rule that the task breaks, if any.
+    fn broken_rule(&self) -> Option<u64> {
+        if self.period == 0 || self.period > Task::LONGEST_PERIOD {
+            Some(2)
+        } else if self.run == 0 || self.run > self.deadline {
+            Some(3)
+        } else if self.deadline > self.period {
+            Some(4)
+        } else if self.offset > Task::LARGEST_OFFSET {
+            Some(5)
+        } else {
+            None
+        }
+    }
+}
+
+impl Policy {
+    /// The smaller key is served first; equal keys go by task number.
+    fn key(self, number: usize, task: &Task, due: u64) -> u64 {
+        match self {
+            Policy::ListOrder => number as u64,
+            Policy::RateMonotonic => task.period,
+            Policy::DeadlineMonotonic => task.deadline,
+            Policy::EarliestDeadlineFirst => due,
+        }
+    }
+}
+
+impl Frame {
+    fn cycle_start(&self) -> u64 {
+        self.largest_offset + self.hyperperiod
+    }
+
+    pub fn end(&self) -> u64 {
+        self.cycle_start() + self.hyperperiod
+    }
+}
+
+impl Job {
+    /// Before the first release nothing is owed.
+    fn before_first(task: &Task) -> Job {
+        Job {
+            next_release: task.offset,
+            due: 0,
+            left: 0,
+            key: 0,
+        }
+    }
+
+    fn is_ready(&self) -> bool {
+        self.left > 0
+    }
+
+    fn misses_at(&self, instant: u64) -> bool {
+        self.is_ready() && self.due == instant
+    }
+}
+
+/// Checks the list, then walks the schedule and fills both tables.
+#[inline(never)]
+#[unsafe(no_mangle)]
+pub fn plain_check(tasks: &[Task], policy: Policy, startup: &mut [u8], cycle: &mut [u8]) -> Answer {
+    let frame = match frame_of(tasks) {
+        Ok(frame) => frame,
+        Err(refused) => return refused,
+    };
+    if (startup.len() as u64) < frame.cycle_start() {
+        return Answer::Refused { number: 7, task: 0 };
+    }
+    if (cycle.len() as u64) < frame.hyperperiod {
+        return Answer::Refused { number: 8, task: 0 };
+    }
+    if frame.load > frame.hyperperiod {
+        return Answer::Overloaded {
+            load: frame.load,
+            hyperperiod: frame.hyperperiod,
+        };
+    }
+    walk(tasks, policy, frame, startup, cycle)
+}
+
+fn frame_of(tasks: &[Task]) -> Result<Frame, Answer> {
+    if tasks.is_empty() || tasks.len() > Task::MOST_TASKS {
+        return Err(Answer::Refused { number: 1, task: 0 });
+    }
+    for (task, entry) in tasks.iter().enumerate() {
+        if let Some(number) = entry.broken_rule() {
+            return Err(Answer::Refused { number, task });
+        }
+    }
+    let hyperperiod = hyperperiod_of(tasks).ok_or(Answer::Refused { number: 6, task: 0 })?;
+    Ok(Frame {
+        largest_offset: tasks.iter().map(|task| task.offset).max().unwrap_or(0),
+        hyperperiod,
+        load: tasks
+            .iter()
+            .map(|task| task.run * (hyperperiod / task.period))
+            .sum(),
+    })
+}
+
+/// The least common multiple of all periods; none if it is above the limit.
+fn hyperperiod_of(tasks: &[Task]) -> Option<u64> {
+    let mut multiple = 1;
+    for task in tasks {
+        // Both numbers are within the limit here, so the product can't wrap.
+        multiple = multiple / gcd(multiple, task.period) * task.period;
+        if multiple > Task::LONGEST_HYPERPERIOD {
+            return None;
+        }
+    }
+    Some(multiple)
+}
+
+fn gcd(a: u64, b: u64) -> u64 {
+    if b == 0 { a } else { gcd(b, a % b) }
+}
+
+/// Walks all slots up to the one after the tables, which decides the last preemption.
+fn walk(
+    tasks: &[Task],
+    policy: Policy,
+    frame: Frame,
+    startup: &mut [u8],
+    cycle: &mut [u8],
+) -> Answer {
+    let mut jobs: Vec<Job> = tasks.iter().map(Job::before_first).collect();
+    let mut counts = Counts::default();
+    let mut last_served = None;
+    for instant in 0..=frame.end() {
+        if let Some(task) = jobs.iter().position(|job| job.misses_at(instant)) {
+            return Answer::Missed { task, instant };
+        }
+        // Asked before the releases: a finished job's task may get a new one now.
+        let unfinished = last_served.filter(|&number: &usize| jobs[number].is_ready());
+        release(&mut jobs, tasks, policy, instant);
+        let served = pick(&jobs);
+        if unfinished.is_some() && served != unfinished {
+            counts.note_preemption(instant, &frame);
+        }
+        if let Some(number) = served {
+            jobs[number].left -= 1;
+        }
+        counts.note_slot(instant, served, &frame, startup, cycle);
+        last_served = served;
+    }
+    Answer::Feasible { frame, counts }
+}
+
+fn release(jobs: &mut [Job], tasks: &[Task], policy: Policy, instant: u64) {
+    for (number, (job, task)) in jobs.iter_mut().zip(tasks).enumerate() {
+        if job.next_release == instant {
+            job.next_release = instant + task.period;
+            job.due = instant + task.deadline;
+            job.left = task.run;
+            job.key = policy.key(number, task, job.due);
+        }
+    }
+}
+
+/// The ready job with the smallest key; of equal keys the first is taken.
+fn pick(jobs: &[Job]) -> Option<usize> {
+    jobs.iter()
+        .enumerate()
+        .filter(|(_, job)| job.is_ready())
+        .min_by_key(|(_, job)| job.key)
+        .map(|(number, _)| number)
+}
+
+impl Counts {
+    fn note_preemption(&mut self, instant: u64, frame: &Frame) {
+        if instant <= frame.cycle_start() {
+            self.preemptions_startup += 1;
+        } else {
+            self.preemptions_cycle += 1;
+        }
+    }
+
+    /// Writes the slot's entry and counts it if idle; the slot after the end has none.
+    fn note_slot(
+        &mut self,
+        slot: u64,
+        served: Option<usize>,
+        frame: &Frame,
+        startup: &mut [u8],
+        cycle: &mut [u8],
+    ) {
+        let entry = served.map_or(IDLE, |number| number as u8);
+        let idle = u64::from(served.is_none());
+        if slot < frame.cycle_start() {
+            startup[slot as usize] = entry;
+            self.idle_startup += idle;
+        } else if slot < frame.end() {
+            cycle[(slot - frame.cycle_start()) as usize] = entry;
+            self.idle_cycle += idle;
+        }
+    }
+}

@@ -1,0 +1,57 @@
+//! A single list, tried by both programs and printed with its tables.
+
+use crate::arguments::Arguments;
+use crate::case::{self, Case};
+use crate::compare::{by_library, by_walk, describe, differences, Outcome};
+use crate::lent::Buffers;
+use crate::random::Random;
+use crate::verdict::judge;
+
+/// True when both answer alike and the walk keeps the paper's claims.
+pub fn try_one(words: &[u64], arguments: &Arguments) -> bool {
+    let Some((&policy, list)) = words.split_first() else {
+        println!("a list to try begins with its policy");
+        return false;
+    };
+    let mut case = Case::exact(policy, list.to_vec());
+    case.startup_len = arguments.startup_len.unwrap_or(case.startup_len);
+    case.cycle_len = arguments.cycle_len.unwrap_or(case.cycle_len);
+    case.row_len = arguments.row_len.unwrap_or(case.row_len);
+    let verdict = judge(&case);
+    let buffers = Buffers::for_case(&mut Random::new(arguments.seed), &case);
+    let walk = by_walk(&verdict, buffers.clone());
+    let library = by_library(&case, buffers);
+    print("walk", &case, &walk);
+    print("library", &case, &library);
+    let mut reasons = verdict.broken;
+    reasons.extend(differences(&walk, &library));
+    for reason in &reasons {
+        println!("DIFFERENT: {reason}");
+    }
+    if reasons.is_empty() {
+        println!("they agree");
+    }
+    reasons.is_empty()
+}
+
+fn print(who: &str, case: &Case, outcome: &Outcome) {
+    let (startup, cycle) = written(case, outcome);
+    println!("{who}: {}", describe(outcome));
+    println!("  startup {:?}", &outcome.buffers.startup.part()[..startup]);
+    println!("  cycle   {:?}", &outcome.buffers.cycle.part()[..cycle]);
+}
+
+/// How many entries of each buffer an outcome says that it has written.
+fn written(case: &Case, outcome: &Outcome) -> (usize, usize) {
+    let Some((startup, cycle)) = case::needed(&case.list) else {
+        return (0, 0);
+    };
+    let end = match (outcome.code, outcome.buffers.row.part()) {
+        (0, _) => startup + cycle,
+        (1, [_, instant, ..]) => (startup + cycle).min(*instant as usize),
+        _ => 0,
+    };
+    let startup_end = end.min(startup);
+    let startup_part = startup_end.min(case.startup_len);
+    (startup_part, (end - startup_end).min(case.cycle_len))
+}

@@ -1,0 +1,198 @@
+//! How often each answer and each thing of interest came in a run.
+
+use crate::case::Case;
+use crate::paper::{self, Answer, MOST_HYPERPERIOD, MOST_OFFSET, MOST_TASKS, ROW_WORDS};
+use crate::verdict::Verdict;
+use std::collections::{HashMap, HashSet};
+
+/// Each line of the table, and whether a run without it fails.
+const LINES: [(&str, bool); 44] = [
+    ("refused 1", true),
+    ("refused 1, no task", true),
+    ("refused 1, 17 tasks", true),
+    ("refused 1, 1,000 tasks", true),
+    ("refused 2", true),
+    ("refused 3", true),
+    ("refused 4", true),
+    ("refused 5", true),
+    ("refused 6", true),
+    ("refused 7", true),
+    ("refused 8", true),
+    ("refused, and another refusal applies", true),
+    ("code 4, policy above 3 alone", true),
+    ("code 4, words not a multiple of four alone", true),
+    ("code 4, row shorter than eight alone", true),
+    ("code 4, several reasons", true),
+    ("overloaded", true),
+    ("overloaded by one slot", true),
+    ("missed, list order", true),
+    ("missed, rate monotonic", true),
+    ("missed, deadline monotonic", true),
+    ("missed, EDF", true),
+    ("feasible, list order", true),
+    ("feasible, rate monotonic", true),
+    ("feasible, deadline monotonic", true),
+    ("feasible, EDF", true),
+    ("an offset beyond H, not refused", true),
+    ("first miss within the first H", true),
+    ("first miss after M + H, list order", true),
+    ("first miss after M + H, rate monotonic", true),
+    ("first miss after M + H, deadline monotonic", true),
+    ("first miss after M + H, EDF", true),
+    ("first miss after M + H + H/2", true),
+    ("H at least 8,192, not refused", true),
+    ("H exactly 16,384, not refused", false),
+    ("M exactly 16,384, not refused", false),
+    ("preemption at M + 2H", true),
+    ("load exactly H, feasible", true),
+    ("one task, feasible", true),
+    ("16 tasks, feasible", true),
+    ("startup longer than needed, tables written", true),
+    ("cycle longer than needed, tables written", true),
+    ("both buffers exact, tables written", true),
+    ("row longer than eight words", true),
+];
+
+const POLICIES: [&str; 4] = ["list order", "rate monotonic", "deadline monotonic", "EDF"];
+
+#[derive(Default)]
+pub struct Tally {
+    counts: HashMap<String, u64>,
+    seen: HashSet<(u64, Vec<u64>)>,
+}
+
+impl Tally {
+    fn note(&mut self, line: &str) {
+        debug_assert!(LINES.iter().any(|(name, _)| *name == line), "{line}");
+        *self.counts.entry(line.to_string()).or_default() += 1;
+    }
+
+    fn note_if(&mut self, applies: bool, line: &str) {
+        if applies {
+            self.note(line);
+        }
+    }
+
+    fn count(&self, line: &str) -> u64 {
+        self.counts.get(line).copied().unwrap_or(0)
+    }
+
+    pub fn add(&mut self, case: &Case, verdict: &Verdict) {
+        self.note_if(case.row_len > ROW_WORDS, "row longer than eight words");
+        match verdict.answer {
+            Answer::NotAsked => self.add_not_asked(case),
+            Answer::Refused { number, .. } => self.add_refused(case, verdict, number),
+            Answer::Overloaded { load, hyperperiod } => {
+                self.note("overloaded");
+                self.note_if(load == hyperperiod + 1, "overloaded by one slot");
+                self.add_list(case);
+            }
+            Answer::Missed { instant, .. } => {
+                self.add_missed(case, instant);
+                self.add_list(case);
+            }
+            Answer::Feasible { .. } => {
+                self.add_feasible(case, verdict);
+                self.add_list(case);
+            }
+        }
+    }
+
+    fn add_not_asked(&mut self, case: &Case) {
+        let policy = case.policy > 3;
+        let words = !case.list.len().is_multiple_of(4);
+        let row = case.row_len < ROW_WORDS;
+        self.note(match (policy, words, row) {
+            (true, false, false) => "code 4, policy above 3 alone",
+            (false, true, false) => "code 4, words not a multiple of four alone",
+            (false, false, true) => "code 4, row shorter than eight alone",
+            _ => "code 4, several reasons",
+        });
+    }
+
+    fn add_refused(&mut self, case: &Case, verdict: &Verdict, number: u64) {
+        self.note(&format!("refused {number}"));
+        match case.list.len() / 4 {
+            0 => self.note("refused 1, no task"),
+            17 => self.note("refused 1, 17 tasks"),
+            1_000 => self.note("refused 1, 1,000 tasks"),
+            _ => {}
+        }
+        let several = verdict.refusals > 1;
+        self.note_if(several, "refused, and another refusal applies");
+    }
+
+    fn add_missed(&mut self, case: &Case, instant: u64) {
+        let policy = POLICIES[case.policy as usize];
+        let (startup, cycle) = needed(case);
+        self.note(&format!("missed, {policy}"));
+        self.note_if(instant <= cycle, "first miss within the first H");
+        self.note_if(
+            instant > startup,
+            &format!("first miss after M + H, {policy}"),
+        );
+        let half = startup + cycle / 2;
+        self.note_if(instant > half, "first miss after M + H + H/2");
+        self.add_buffers(case);
+    }
+
+    fn add_feasible(&mut self, case: &Case, verdict: &Verdict) {
+        let Answer::Feasible {
+            hyperperiod, load, ..
+        } = verdict.answer
+        else {
+            return;
+        };
+        let tasks = case.list.len() / 4;
+        self.note(&format!("feasible, {}", POLICIES[case.policy as usize]));
+        self.note_if(tasks == 1, "one task, feasible");
+        self.note_if(tasks == MOST_TASKS, "16 tasks, feasible");
+        self.note_if(load == hyperperiod, "load exactly H, feasible");
+        self.note_if(verdict.last_preemption, "preemption at M + 2H");
+        self.add_buffers(case);
+    }
+
+    fn add_buffers(&mut self, case: &Case) {
+        let (startup, cycle) = needed(case);
+        let startup_longer = case.startup_len as u64 > startup;
+        let cycle_longer = case.cycle_len as u64 > cycle;
+        let exact = !startup_longer && !cycle_longer;
+        self.note_if(startup_longer, "startup longer than needed, tables written");
+        self.note_if(cycle_longer, "cycle longer than needed, tables written");
+        self.note_if(exact, "both buffers exact, tables written");
+    }
+
+    /// What is noted of every list that is not refused.
+    fn add_list(&mut self, case: &Case) {
+        let (startup, hyperperiod) = needed(case);
+        let offset = startup - hyperperiod;
+        self.seen.insert((case.policy, case.list.clone()));
+        self.note_if(offset > hyperperiod, "an offset beyond H, not refused");
+        self.note_if(hyperperiod >= 8_192, "H at least 8,192, not refused");
+        let most = hyperperiod == MOST_HYPERPERIOD;
+        self.note_if(most, "H exactly 16,384, not refused");
+        self.note_if(offset == MOST_OFFSET, "M exactly 16,384, not refused");
+    }
+
+    pub fn print(&self) {
+        for (line, required) in LINES {
+            let mark = if required { "" } else { "  (not required)" };
+            println!("  {line:<46}{:>9}{mark}", self.count(line));
+        }
+        let different = "different lists and policies, not refused";
+        println!("  {different:<46}{:>9}", self.seen.len());
+    }
+
+    /// The lines that must come in every run and did not.
+    pub fn never_came(&self) -> Vec<&'static str> {
+        let missing = |line: &&(&str, bool)| line.1 && self.count(line.0) == 0;
+        LINES.iter().filter(missing).map(|line| line.0).collect()
+    }
+}
+
+/// M + H and H of a list that is not refused.
+fn needed(case: &Case) -> (u64, u64) {
+    let tasks = paper::tasks_of(&case.list);
+    let (startup, cycle) = paper::needed(&tasks).expect("the list is not refused");
+    (startup as u64, cycle as u64)
+}
