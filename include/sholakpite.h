@@ -1,7 +1,7 @@
 /*
  * Sholakpite: whether a list of periodic tasks ever misses a deadline on one core, and its slot tables.
  *
- * The function behind this header is written in Rattle and proved to meet its promise
+ * The functions behind this header are written in Rattle and proved to meet their promises
  * (crates/sholakpite/specs/Words.antt). This header is not: it is assumed to match.
  */
 #ifndef SHOLAKPITE_H
@@ -34,6 +34,11 @@ extern "C" {
 /* A table entry of an idle slot; any other is a task number. */
 #define SHOLAKPITE_IDLE 255
 
+/* Job k is released at offset + k * period, needs run slots, and is due deadline slots after its release. */
+struct sholakpite_task {
+    uint64_t offset, run, deadline, period;
+};
+
 /*
  * Checks a list under a policy.
  *
@@ -51,6 +56,10 @@ extern "C" {
  */
 uint64_t sholakpite_check(uint64_t policy, const uint64_t *list, size_t list_len, uint8_t *startup, size_t startup_len,
                           uint8_t *cycle, size_t cycle_len, uint64_t *row, size_t row_len);
+
+/* The same for a list of task structs; list_len counts tasks, so only the policy and row can be misunderstood. */
+uint64_t sholakpite_check_tasks(uint64_t policy, const struct sholakpite_task *list, size_t list_len, uint8_t *startup,
+                                size_t startup_len, uint8_t *cycle, size_t cycle_len, uint64_t *row, size_t row_len);
 
 #ifdef __cplusplus
 }

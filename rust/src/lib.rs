@@ -1,12 +1,24 @@
 //! Whether a list of periodic tasks ever misses a deadline on one core, and its slot tables.
 //!
-//! A safe wrapper over `sholakpite_check`, which is written in Rattle and proved. The declaration below is not proved: it
-//! is assumed to match, as include/sholakpite.h is.
+//! A safe wrapper over functions that are written in Rattle and proved. Their declarations below are not proved: they are
+//! assumed to match, as include/sholakpite.h is.
 
 extern "C" {
     fn sholakpite_check(
         policy: u64,
         list: *const u64,
+        list_len: usize,
+        startup: *mut u8,
+        startup_len: usize,
+        cycle: *mut u8,
+        cycle_len: usize,
+        row: *mut u64,
+        row_len: usize,
+    ) -> u64;
+
+    fn sholakpite_check_tasks(
+        policy: u64,
+        list: *const Task,
         list_len: usize,
         startup: *mut u8,
         startup_len: usize,
@@ -33,7 +45,7 @@ pub struct Task {
     pub period: u64,
 }
 
-/// Who gets the slot, by the number that `sholakpite_check` knows it by.
+/// Who gets the slot, by the number that C calls it by.
 #[derive(Clone, Copy, Debug, PartialEq, Eq)]
 pub enum Policy {
     ListOrder = 0,
@@ -70,7 +82,7 @@ pub enum Answer {
 /// their bytes.
 pub fn check(list: &[Task], policy: Policy, startup: &mut [u8], cycle: &mut [u8]) -> Answer {
     let mut row = [0; ROW];
-    match check_words(policy as u64, words_of(list), startup, cycle, &mut row) {
+    match check_tasks(policy as u64, list, startup, cycle, &mut row) {
         0 => Answer::Feasible(Plan {
             latest: row[0],
             hyperperiod: row[1],
@@ -93,7 +105,7 @@ pub fn check(list: &[Task], policy: Policy, startup: &mut [u8], cycle: &mut [u8]
             task: row[1],
         },
         code => {
-            unreachable!("a call of four words a task and {ROW} for the row was answered {code}")
+            unreachable!("a known policy and a row of {ROW} words were answered {code}")
         }
     }
 }
@@ -122,8 +134,26 @@ pub fn check_words(
     }
 }
 
-/// The same memory: a `Task` is four words in the paper's order, with no padding.
-fn words_of(list: &[Task]) -> &[u64] {
-    let each = size_of::<Task>() / size_of::<u64>();
-    unsafe { std::slice::from_raw_parts(list.as_ptr().cast(), list.len() * each) }
+/// As C calls it with a list of task structs.
+pub fn check_tasks(
+    policy: u64,
+    list: &[Task],
+    startup: &mut [u8],
+    cycle: &mut [u8],
+    row: &mut [u64],
+) -> u64 {
+    // As above.
+    unsafe {
+        sholakpite_check_tasks(
+            policy,
+            list.as_ptr(),
+            list.len(),
+            startup.as_mut_ptr(),
+            startup.len(),
+            cycle.as_mut_ptr(),
+            cycle.len(),
+            row.as_mut_ptr(),
+            row.len(),
+        )
+    }
 }

@@ -2,6 +2,7 @@
 
 use crate::case::Case;
 use crate::lent::{Buffers, Lent};
+use crate::paper::{self, TASK_WORDS};
 use crate::random::Random;
 use crate::verdict::Verdict;
 use std::fmt::Display;
@@ -24,7 +25,17 @@ pub fn by_walk(verdict: &Verdict, mut buffers: Buffers) -> Outcome {
     }
 }
 
-pub fn by_library(case: &Case, mut buffers: Buffers) -> Outcome {
+/// The library's entries, each over the same case and buffers, with its name.
+pub fn by_library(case: &Case, buffers: &Buffers) -> Vec<(&'static str, Outcome)> {
+    let mut outcomes = vec![("words", by_words(case, buffers.clone()))];
+    // Words that are left over are no task, so there is nothing to lend as tasks.
+    if case.list.len().is_multiple_of(TASK_WORDS) {
+        outcomes.push(("tasks", by_tasks(case, buffers.clone())));
+    }
+    outcomes
+}
+
+fn by_words(case: &Case, mut buffers: Buffers) -> Outcome {
     let code = sholakpite::check_words(
         case.policy,
         buffers.list.part(),
@@ -35,21 +46,53 @@ pub fn by_library(case: &Case, mut buffers: Buffers) -> Outcome {
     Outcome { code, buffers }
 }
 
-/// Runs one case through both; a text comes back when anything differs.
+fn by_tasks(case: &Case, mut buffers: Buffers) -> Outcome {
+    let list: Vec<sholakpite::Task> = paper::tasks_of(&case.list).iter().map(lend).collect();
+    let code = sholakpite::check_tasks(
+        case.policy,
+        &list,
+        buffers.startup.part_mut(),
+        buffers.cycle.part_mut(),
+        buffers.row.part_mut(),
+    );
+    // Written back, so that a task that was changed is seen.
+    let words: Vec<u64> = list.iter().flat_map(words_of).collect();
+    buffers.list.part_mut().copy_from_slice(&words);
+    Outcome { code, buffers }
+}
+
+fn lend(task: &paper::Task) -> sholakpite::Task {
+    sholakpite::Task {
+        offset: task.offset,
+        run: task.run,
+        deadline: task.deadline,
+        period: task.period,
+    }
+}
+
+fn words_of(task: &sholakpite::Task) -> [u64; TASK_WORDS] {
+    [task.offset, task.run, task.deadline, task.period]
+}
+
+/// Runs one case through the walk and every entry; a text comes back when anything differs.
 pub fn compare(case: &Case, verdict: &Verdict, random: &mut Random) -> Option<String> {
     let buffers = Buffers::for_case(random, case);
     let walk = by_walk(verdict, buffers.clone());
-    let library = by_library(case, buffers);
     let mut lines = verdict.broken.clone();
-    lines.extend(differences(&walk, &library));
+    for (entry, library) in by_library(case, &buffers) {
+        let found = differences(&walk, &library);
+        if !found.is_empty() {
+            lines.push(format!("library, {entry}: {}", describe(&library)));
+            lines.extend(found);
+        }
+    }
     if lines.is_empty() {
         return None;
     }
     Some(format!(
-        "  {}\n  walk:    {}\n  library: {}\n  {}",
+        "  {}\n  walk: {}\n  {}",
         case.try_again(),
         describe(&walk),
-        describe(&library),
         lines.join("\n  "),
     ))
 }

@@ -2,7 +2,7 @@
 
 use crate::case::{words_of, Case};
 use crate::lists;
-use crate::paper::{Task, MOST_OFFSET, MOST_PERIOD, MOST_TASKS, ROW_WORDS};
+use crate::paper::{Task, MOST_OFFSET, MOST_PERIOD, MOST_TASKS, ROW_WORDS, TASK_WORDS};
 use crate::random::Random;
 
 /// Words at and around the limits, and words that would wrap.
@@ -131,7 +131,7 @@ fn shorter(random: &mut Random, len: usize) -> usize {
 fn wild(random: &mut Random, policy: u64) -> Case {
     let tiny = random.once_in(2);
     let tasks = random.between(1, if tiny { 3 } else { MOST_TASKS as u64 });
-    let list = (0..4 * tasks)
+    let list = (0..TASK_WORDS as u64 * tasks)
         .map(|_| {
             if tiny {
                 random.below(5)
@@ -162,9 +162,16 @@ fn wrong_count(random: &mut Random, policy: u64) -> Case {
     };
     let pattern = words_of(&lists::valid(random));
     let list = if random.once_in(3) {
-        (0..4 * count).map(|_| random.pick(&BORDERS)).collect()
+        (0..TASK_WORDS * count)
+            .map(|_| random.pick(&BORDERS))
+            .collect()
     } else {
-        pattern.iter().copied().cycle().take(4 * count).collect()
+        pattern
+            .iter()
+            .copied()
+            .cycle()
+            .take(TASK_WORDS * count)
+            .collect()
     };
     let mut case = Case::fitting(random, policy, list);
     case.startup_len = random.below(80) as usize;

@@ -6,6 +6,7 @@ pub const MOST_OFFSET: u64 = 16_384;
 pub const MOST_HYPERPERIOD: u64 = 16_384;
 pub const IDLE: u8 = 255;
 pub const ROW_WORDS: usize = 8;
+pub const TASK_WORDS: usize = 4;
 
 #[derive(Clone, Copy, PartialEq, Debug)]
 pub struct Task {
@@ -16,14 +17,14 @@ pub struct Task {
 }
 
 impl Task {
-    pub fn words(&self) -> [u64; 4] {
+    pub fn words(&self) -> [u64; TASK_WORDS] {
         [self.offset, self.run, self.deadline, self.period]
     }
 }
 
 /// Reads the words O C D T of each task; words left over are not a task.
 pub fn tasks_of(list: &[u64]) -> Vec<Task> {
-    list.chunks_exact(4)
+    list.chunks_exact(TASK_WORDS)
         .map(|w| Task {
             offset: w[0],
             run: w[1],

@@ -20,11 +20,12 @@ pub fn try_one(words: &[u64], arguments: &Arguments) -> bool {
     let verdict = judge(&case);
     let buffers = Buffers::for_case(&mut Random::new(arguments.seed), &case);
     let walk = by_walk(&verdict, buffers.clone());
-    let library = by_library(&case, buffers);
     print("walk", &case, &walk);
-    print("library", &case, &library);
     let mut reasons = verdict.broken;
-    reasons.extend(differences(&walk, &library));
+    for (entry, library) in by_library(&case, &buffers) {
+        print(&format!("library, {entry}"), &case, &library);
+        reasons.extend(differences(&walk, &library));
+    }
     for reason in &reasons {
         println!("DIFFERENT: {reason}");
     }

@@ -154,8 +154,9 @@ pub fn hold_all(random: &mut Random) -> Vec<String> {
             let broken = verdict.broken.iter();
             failures.extend(broken.map(|claim| format!("{}: {claim}", tried.name)));
             let walk = by_walk(&verdict, before.clone());
-            let library = by_library(&case, before.clone());
-            for (who, outcome) in [("walk", walk), ("library", library)] {
+            let mut outcomes = by_library(&case, &before);
+            outcomes.push(("walk", walk));
+            for (who, outcome) in outcomes {
                 if let Some(failure) = held(tried, &before, &outcome) {
                     let name = tried.name;
                     let answer = describe(&outcome);

@@ -1,7 +1,9 @@
 //! How often each answer and each thing of interest came in a run.
 
 use crate::case::Case;
-use crate::paper::{self, Answer, MOST_HYPERPERIOD, MOST_OFFSET, MOST_TASKS, ROW_WORDS};
+use crate::paper::{
+    self, Answer, MOST_HYPERPERIOD, MOST_OFFSET, MOST_TASKS, ROW_WORDS, TASK_WORDS,
+};
 use crate::verdict::Verdict;
 use std::collections::{HashMap, HashSet};
 
@@ -100,7 +102,7 @@ impl Tally {
 
     fn add_not_asked(&mut self, case: &Case) {
         let policy = case.policy > 3;
-        let words = !case.list.len().is_multiple_of(4);
+        let words = !case.list.len().is_multiple_of(TASK_WORDS);
         let row = case.row_len < ROW_WORDS;
         self.note(match (policy, words, row) {
             (true, false, false) => "code 4, policy above 3 alone",
@@ -112,7 +114,7 @@ impl Tally {
 
     fn add_refused(&mut self, case: &Case, verdict: &Verdict, number: u64) {
         self.note(&format!("refused {number}"));
-        match case.list.len() / 4 {
+        match case.list.len() / TASK_WORDS {
             0 => self.note("refused 1, no task"),
             17 => self.note("refused 1, 17 tasks"),
             1_000 => self.note("refused 1, 1,000 tasks"),
@@ -143,7 +145,7 @@ impl Tally {
         else {
             return;
         };
-        let tasks = case.list.len() / 4;
+        let tasks = case.list.len() / TASK_WORDS;
         self.note(&format!("feasible, {}", POLICIES[case.policy as usize]));
         self.note_if(tasks == 1, "one task, feasible");
         self.note_if(tasks == MOST_TASKS, "16 tasks, feasible");

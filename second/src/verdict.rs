@@ -1,7 +1,7 @@
 //! The whole answer of the paper for one case, read off the walk.
 
 use crate::case::Case;
-use crate::paper::{self, Answer, Policy, Task, ROW_WORDS};
+use crate::paper::{self, Answer, Policy, Task, ROW_WORDS, TASK_WORDS};
 use crate::readoff;
 use crate::walk::{self, Miss, Walk};
 
@@ -32,7 +32,7 @@ impl Verdict {
 }
 
 pub fn judge(case: &Case) -> Verdict {
-    let words_left = case.list.len() % 4;
+    let words_left = case.list.len() % TASK_WORDS;
     let Some(policy) = Policy::of(case.policy) else {
         return Verdict::plain(Answer::NotAsked);
     };

@@ -15,7 +15,7 @@ pub fn check(list: &[Task], policy: Policy, startup: &mut [u8], cycle: &mut [u8]
 }
 
 // The checker's own copy. No more tasks are read than it has room for.
-fn load(list: &[Task]) -> Tasks
+pub fn load(list: &[Task]) -> Tasks
     ensures { λ r. ⌜ r ≡ arrayOf (now (list .entry)) ⌝ }
 {
     let n = list.len();

@@ -53,12 +53,16 @@ written r words = values r ++ drop (length (values r)) words
 abbrev pub rowLength : ℕ
 rowLength = 8
 
--- the policy is above 3, the words are not a multiple of four, or the answer's buffer is shorter than eight
-abbrev pub misread : ℕ → List ℕ → List ℕ → Bool
-misread policy list words = ltb lastPolicy policy || (not (eqb (length list % 4) 0) || ltb (length words) rowLength)
+-- the policy is above 3, or the answer's buffer is shorter than eight
+abbrev pub misread : ℕ → List ℕ → Bool
+misread policy words = ltb lastPolicy policy || ltb (length words) rowLength
+
+-- the words of a list are not a multiple of four
+abbrev pub ragged : List ℕ → Bool
+ragged list = not (eqb (length list % 4) 0)
 
 -- `startup`, `cycle` and `words` are the buffers as they were lent, s, c and w as they are left
-module _ (policy : ℕ) (list startup cycle words : List ℕ) where
+module _ (policy : ℕ) (l : List Task) (startup cycle words : List ℕ) where
   pub record NotUnderstood (n : ℕ) (s c w : List ℕ) : Type 0 where
     pub is-code : n ≡ 4
     pub tables : Unchanged startup cycle s c
@@ -66,7 +70,7 @@ module _ (policy : ℕ) (list startup cycle words : List ℕ) where
 
   pub record Understood (n : ℕ) (s c w : List ℕ) : Type 0 where
     pub answer : Answer
-    pub promised : Promised (policyOf policy) (tasksOf list) startup cycle answer s c
+    pub promised : Promised (policyOf policy) l startup cycle answer s c
     pub is-code : n ≡ code (row answer)
     pub is-written : w ≡ written (row answer) words
 
@@ -74,6 +78,10 @@ module _ (policy : ℕ) (list startup cycle words : List ℕ) where
   either true n s c w = NotUnderstood n s c w
   either false n s c w = Understood n s c w
 
-  -- 4 exactly where the call is misread
-  abbrev pub Answered : ℕ → List ℕ → List ℕ → List ℕ → Type 0
-  Answered n s c w = either (misread policy list words) n s c w
+-- a list of tasks: 4 exactly where the call is misread
+abbrev pub Answered : ℕ → List Task → List ℕ → List ℕ → List ℕ → ℕ → List ℕ → List ℕ → List ℕ → Type 0
+Answered policy l startup cycle words = either policy l startup cycle words (misread policy words)
+
+-- a list of words: 4 exactly where it is ragged or the call is misread
+abbrev pub AnsweredWords : ℕ → List ℕ → List ℕ → List ℕ → List ℕ → ℕ → List ℕ → List ℕ → List ℕ → Type 0
+AnsweredWords policy list startup cycle words = either policy (tasksOf list) startup cycle words (ragged list || misread policy words)

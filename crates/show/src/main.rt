@@ -1,4 +1,5 @@
-// Checks a built-in list, list b of document 01, and prints the answer with its tables. `stdout` was read off the paper.
+// Checks a built-in list, list b of document 01, and prints the answer with its tables, and the slot of a late instant.
+// `stdout` was read off the paper; 1,000,001 is five startup slots, 249,999 cycles of four, and no more.
 use answer::Answer;
 use answer::IDLE;
 use answer::Plan;
@@ -67,6 +68,16 @@ fn rest(said: Answer) {
     }
 }
 
+// The slot of any instant, looked up in the tables.
+fn slot<'a>(startup: &'a [u8], cycle: &'a [u8], t: usize) {
+    named(b"slot", t);
+    let part = lookup::lookup(startup, cycle, t);
+    if 0 < part.len() {
+        entry(part[0]);
+    }
+    word(b"\n");
+}
+
 fn main() {
     let list = Tasks::none()
         .with(Task::new(0, 2, 4, 4))
@@ -78,4 +89,5 @@ fn main() {
     table(b"startup", &startup);
     table(b"cycle", &cycle);
     rest(said);
+    slot(&startup, &cycle, 1_000_001);
 }

@@ -9,6 +9,8 @@ ghost use Rattle.task.specs.Checks.{taskRefusal};
 use refusal::Check;
 use refusal::Refusal;
 
+// Callers in C and Rust lend tasks in this layout.
+#[repr(C)]
 pub struct Task {
     pub offset: usize,
     pub run: usize,

@@ -1,6 +1,9 @@
--- `sholakpite_check` meets its contract: each early return is at a test of `misread`, and the last one tells what `check` answers.
-use borrow.Author.Tests.{eq-eqb, ne-eqb, lt-ltb, le-ltb}
-use Rattle.sholakpite.proofs.Calls.{not-understood, understood}
+-- `sholakpite_check` meets its contract: ragged words are not understood, and others are answered as their tasks are.
+use mathlib.Core.Bool.{_||_}
+use borrow.Author.Tests.{eq-eqb, ne-eqb}
+use Rattle.task.proofs.Copied.{held-array}
+use Rattle.sholakpite.specs.Words.{tasksOf, misread, ragged}
+use Rattle.sholakpite.proofs.Calls.{not-understood, of-words}
 use borrow.Author.Needs.{needs}
 use Rattle.sholakpite.proofs.sholakpite_check.Statement.{statement}
 use Rattle.sholakpite.proofs.sholakpite_check.Tie as tie
@@ -8,33 +11,14 @@ use Rattle.sholakpite.proofs.sholakpite_check.Tie as tie
 returns : tie.Need-returns
 returns c =
     let x = c .before .before .before .before .before in
-    not-understood (x .args .policy) (x .args .list .now) (x .args .startup .now) (x .args .cycle .now) (x .args .row .now)
-    (simp (lt-ltb _ _ (c .if1 .taken)))
-
-returns-2 : tie.Need-returns-2
-returns-2 c =
-    let x = c .before .before .before .before .before .before in
-    not-understood (x .args .policy) (x .args .list .now) (x .args .startup .now) (x .args .cycle .now) (x .args .row .now)
-    (simp (le-ltb _ _ (c .before .if1 .left), ne-eqb _ _ (c .if2 .taken)))
-
-returns-3 : tie.Need-returns-3
-returns-3 c =
-    let e₂ = c .before in
-    let x = e₂ .before .before .before .before .before .before in
-    not-understood (x .args .policy) (x .args .list .now) (x .args .startup .now) (x .args .cycle .now) (x .args .row .now)
-    (simp (le-ltb _ _ (e₂ .before .if1 .left), eq-eqb _ _ (e₂ .if2 .left), lt-ltb _ _ (c .if3 .taken)))
+    not-understood (x .args .policy) (tasksOf (x .args .list .now)) (x .args .startup .now) (x .args .cycle .now) (x .args .row .now)
+    (ragged (x .args .list .now) || misread (x .args .policy) (x .args .row .now)) (simp (ne-eqb _ _ (c .if1 .taken)))
 
 tasks-of-requires : tie.Need-tasks-of-requires
 tasks-of-requires c κs = search needs
 
-policy-of-requires : tie.Need-policy-of-requires
-policy-of-requires c κs = search needs
-
-check-requires : tie.Need-check-requires
-check-requires c κs = search needs
-
-tell-requires : tie.Need-tell-requires
-tell-requires c κs = search needs
+answered-requires : tie.Need-answered-requires
+answered-requires c κs = search needs
 
 same-length : tie.Need-same-length
 same-length c = search needs
@@ -45,31 +29,23 @@ same-length-2 c = search needs
 same-length-3 : tie.Need-same-length-3
 same-length-3 c = search needs
 
-returns-4 : tie.Need-returns-4
-returns-4 c =
-    let t = c .before .before in
-    let k = t .before .before .before .before .before .before in
-    let p = k .before .before .before in
-    let e₃ = p .before .before in
-    let e₂ = e₃ .before in
-    let x = e₂ .before .before .before .before .before .before in
-    understood (x .args .policy) (x .args .list .now) (x .args .startup .now) (x .args .cycle .now) (x .args .row .now)
-    (simp (le-ltb _ _ (e₂ .before .if1 .left), eq-eqb _ _ (e₂ .if2 .left), le-ltb _ _ (e₃ .if3 .left)))
-    (p .before .tasks-of .result) (p .policy-of .result) (k .check .result) (t .tell .result) _ _ _
-    (p .before .tasks-of .ensures) (p .policy-of .ensures) (k .check .ensures) (t .tell .ensures .0) (t .tell .ensures .1)
+returns-2 : tie.Need-returns-2
+returns-2 c =
+    let a = c .before .before .before .before .before .before in
+    let q = a .before .before .before .before in
+    let e₁ = q .before in
+    let x = e₁ .before .before .before .before .before in
+    of-words (x .args .policy) (x .args .list .now) (x .args .startup .now) (x .args .cycle .now) (x .args .row .now) (a .answered .result) _ _ _
+    (simp (eq-eqb _ _ (e₁ .if1 .left))) (a .answered .ensures (tasksOf (x .args .list .now)) (rw (q .tasks-of .ensures) (held-array (tasksOf (x .args .list .now)))))
 
 pub sholakpite-check-spec : {M : Type 1} → statement M
 sholakpite-check-spec =
     tie.close
     (tie.spec
     returns
-    returns-2
-    returns-3
     tasks-of-requires
-    policy-of-requires
-    check-requires
-    tell-requires
+    answered-requires
     same-length
     same-length-2
     same-length-3
-    returns-4)
+    returns-2)
