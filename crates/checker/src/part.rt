@@ -1,32 +1,12 @@
-// The parts of one slot: who is late, who is next, who is served, and by which key.
+// The parts of one slot: who is next, who is served, and by which key.
 ghost use mathlib.Core.Path.{_≡_};
 ghost use Prim.Native.Nat.{ℕ, _-_, _≤_, _<_};
 ghost use lib.ListN.{length};
 ghost use Rattle.task.specs.Limits.{largest, mostTasks};
 ghost use Rattle.schedule.specs.Job.{keyFrom};
-ghost use Rattle.state.specs.State.{at, First, Late, Picked, Served};
+ghost use Rattle.state.specs.State.{at, Picked, Served};
 use schedule::Policy;
 use task::Task;
-
-// The least of the first n tasks with a job due at t to which slots are owed, n where there is none.
-pub(crate) fn late(
-    owed: &[usize; Task::MOST],
-    dues: &[usize; Task::MOST],
-    n: usize,
-    t: usize,
-) -> usize
-    requires { ⌜ n ≤ mostTasks ⌝ }
-    ensures { λ r. ⌜ First (Late (now (owed .entry)) (now (dues .entry)) t) n r ⌝ }
-{
-    for i in 0..n {
-        if dues[i] == t {
-            if owed[i] != 0 {
-                return i;
-            }
-        }
-    }
-    n
-}
 
 // The task whose job goes first: the least key, the lower number where keys are equal; n where no job is ready.
 pub(crate) fn pick(owed: &[usize; Task::MOST], keys: &[usize; Task::MOST], n: usize) -> usize
@@ -37,10 +17,11 @@ pub(crate) fn pick(owed: &[usize; Task::MOST], keys: &[usize; Task::MOST], n: us
     let mut best = n;
     let mut least = usize::MAX;
     for i in 0..n {
+        let key = keys[i];
         if owed[i] != 0 {
-            if keys[i] < least {
+            if key < least {
                 best = i;
-                least = keys[i];
+                least = key;
             }
         }
     }

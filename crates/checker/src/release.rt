@@ -1,14 +1,15 @@
-// The releases at an instant.
+// What happens at an instant before its slot is given: misses are noted, and releases happen.
 ghost use mathlib.Core.Path.{_≡_};
 ghost use Prim.Native.Nat.{_+_, _^_, _≤_, _<_};
 ghost use Rattle.task.specs.Limits.{mostTasks};
-ghost use Rattle.state.specs.State.{at, Fitting, Sized, Stored, AllReleased};
+ghost use Rattle.state.specs.State.{at, First, Late, Fitting, Sized, Stored, AllReleased};
 use crate::part::key;
 use schedule::Policy;
 use task::Task;
 
-// Each task whose next job is released at t: its run time is owed, and its job's instant due and key are kept.
-pub(crate) fn release(
+// The least task with a job due at t to which slots are owed; n where there is none, and then all releases at t have happened.
+// A task's miss is noted before its release, which would overwrite the late job. One pass for both: it is the loop that costs most.
+pub(crate) fn arrive(
     policy: Policy,
     n: usize,
     t: usize,
@@ -19,17 +20,25 @@ pub(crate) fn release(
     next: &mut [usize; Task::MOST],
     dues: &mut [usize; Task::MOST],
     keys: &mut [usize; Task::MOST],
-)
+) -> usize
     requires { ⌜ n ≤ mostTasks ⌝ }
     requires { ⌜ Sized (now owed) (now next) (now dues) (now keys) ⌝ }
     requires { ⌜ Fitting n t (now run) (now deadline) (now period) (now owed) (now next) ⌝ }
-    ensures { λ _. ⌜ AllReleased policy n t (now (run .entry)) (now (deadline .entry)) (now (period .entry)) (now (owed .entry)) (now (next .entry)) (now (dues .entry)) (now (keys .entry)) (now (owed .exit)) (now (next .exit)) (now (dues .exit)) (now (keys .exit)) ⌝ }
+    ensures noted { λ r. ⌜ First (Late (now (owed .entry)) (now (dues .entry)) t) n r ⌝ }
+    ensures released { λ r. ⌜ (n ≤ r → AllReleased policy n t (now (run .entry)) (now (deadline .entry)) (now (period .entry)) (now (owed .entry)) (now (next .entry)) (now (dues .entry)) (now (keys .entry)) (now (owed .exit)) (now (next .exit)) (now (dues .exit)) (now (keys .exit))) ⌝ }
 {
     for i in 0..n {
+        if dues[i] == t {
+            if owed[i] != 0 {
+                return i;
+            }
+        }
         release_one(policy, i, t, run, deadline, period, owed, next, dues, keys);
     }
+    n
 }
 
+// Where the next job of task i is released at t: its run time is owed, and its job's instant due and key are kept.
 fn release_one(
     policy: Policy,
     i: usize,

@@ -6,7 +6,7 @@ ghost use Rattle.task.specs.Limits.{mostTasks};
 ghost use Rattle.state.specs.State.{Sized, Spread};
 ghost use Rattle.state.specs.Engine.{Loaded, Fresh, Instant};
 use crate::part::pick;
-use crate::release::release;
+use crate::release::arrive;
 use schedule::Policy;
 use task::Task;
 
@@ -48,6 +48,6 @@ pub(crate) fn begin(
     requires { ⌜ Sized (now owed) (now next) (now dues) (now keys) ⌝ }
     ensures { λ r. ⌜ ((l : List Task) → Loaded l n (now (run .entry)) (now (deadline .entry)) (now (period .entry)) → Fresh l (now (owed .entry)) (now (next .entry)) → Instant policy l 0 (now (owed .exit)) (now (next .exit)) (now (dues .exit)) (now (keys .exit)) r) ⌝ }
 {
-    release(policy, n, 0, run, deadline, period, owed, next, dues, keys);
+    arrive(policy, n, 0, run, deadline, period, owed, next, dues, keys);
     pick(owed, keys, n)
 }

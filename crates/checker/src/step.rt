@@ -9,10 +9,9 @@ ghost use Rattle.task.specs.declared.Task.{Task};
 ghost use Rattle.task.specs.Limits.{mostTasks};
 ghost use Rattle.schedule.specs.Job.{one-if};
 ghost use Rattle.state.specs.Engine.{plenty, Loaded, Instant, Put, Stepped};
-use crate::part::late;
 use crate::part::pick;
 use crate::part::serve;
-use crate::release::release;
+use crate::release::arrive;
 use answer::IDLE;
 use schedule::Policy;
 use task::Task;
@@ -26,7 +25,6 @@ pub(crate) struct Now {
     pub instant: usize,
 }
 
-// Misses are noted before releases happen: a late job would be overwritten and look done.
 pub(crate) fn step(
     policy: Policy,
     n: usize,
@@ -51,17 +49,7 @@ pub(crate) fn step(
     let idle = put(table, place, n, chosen, w.idle);
     let running = serve(owed, n, chosen);
     let instant = t + 1;
-    let missed = late(owed, dues, n, instant);
-    if missed < n {
-        return Now {
-            chosen,
-            idle,
-            preemptions: w.preemptions,
-            missed,
-            instant,
-        };
-    }
-    release(
+    let missed = arrive(
         policy,
         n,
         instant,
@@ -73,6 +61,15 @@ pub(crate) fn step(
         dues,
         keys,
     );
+    if missed < n {
+        return Now {
+            chosen,
+            idle,
+            preemptions: w.preemptions,
+            missed,
+            instant,
+        };
+    }
     let following = pick(owed, keys, n);
     let preemptions = switched(n, running, following, w.preemptions);
     Now {

@@ -2,6 +2,7 @@
 use mathlib.Core.Path.{_≡_, refl, sym, ap, _∙_}
 use mathlib.Core.List.{List}
 use Prim.Native.Nat.{ℕ, _+_, _≤_, _<_}
+use native.Mathlib.Decide.{decLt}
 use native.Mathlib.Omega.{arith}
 use borrow.Author.Count.{below-more}
 use lib.ListN.{length, take, set, length-set}
@@ -12,7 +13,7 @@ use Rattle.task.specs.Limits.{mostTasks}
 use Rattle.task.specs.Tasks.{nobody, task}
 use Rattle.task.specs.Checks.{firstRefusal}
 use Rattle.schedule.specs.declared.Policy.{Policy}
-use Rattle.state.specs.State.{at, Sized, Spread, KeptAt, Picked, Fitting, AllReleased}
+use Rattle.state.specs.State.{at, Sized, Spread, KeptAt, Picked, Fitting, AllReleased, First, Late}
 use Rattle.state.specs.Engine.{Loaded, Fresh, Instant}
 use Rattle.state.proofs.Moves.{picked-is, kept-start, clear-start, kept-released}
 use Rattle.state.proofs.Stepping.{ok, w}
@@ -91,6 +92,13 @@ module _ {l : List Task} {n : ℕ} {run deadline period owed next : List ℕ} (L
         omega (arith, L .unpacked .period-is i il, F .short),
         omega (arith, L .unpacked .deadline-is i il, F .within, F .short),
       )
+
+  -- where nothing is owed nobody is late
+  pub none-late : (dues : List ℕ) (t r : ℕ) → First (Late owed dues t) n r → n ≤ r
+  none-late dues t r x = elim (decLt r n) [
+    | yes b ↦ absurd (omega (arith, x .holds b .1, f .nothing-owed r (omega (arith, L .counted))))
+    | no b ↦ omega arith
+  ]
 
   module _ {p : Policy} {dues keys owed′ next′ dues′ keys′ : List ℕ}
       (rel : AllReleased p n 0 run deadline period owed next dues keys owed′ next′ dues′ keys′) where

@@ -2,7 +2,8 @@
 use mathlib.Core.Path.{_≡_, refl, sym, ap, _∙_}
 use mathlib.Core.List.{List}
 use mathlib.Core.Bool.{not, _&&_}
-use Prim.Native.Nat.{ℕ, suc, _+_, _≤_, _<_}
+use Prim.Native.Nat.{ℕ, suc, _+_, _*_, _≤_, _<_}
+use native.Mathlib.Nat.{div-mul-le-self}
 use native.Mathlib.Numerals.{add-one}
 use native.Mathlib.Decide.{decLt}
 use native.Mathlib.Omega.{arith}
@@ -15,7 +16,7 @@ use Rattle.task.proofs.Refusing.{Fine, Passed, passed}
 use Rattle.schedule.specs.declared.Policy.{Policy}
 use Rattle.schedule.specs.declared.Policy.the-variants.{ListOrder, RateMonotonic, DeadlineMonotonic, Edf}
 use Rattle.schedule.specs.Job.{one-if, isIdle, keyOf}
-use Rattle.schedule.specs.Endless.{arrived, endless, pickAt}
+use Rattle.schedule.specs.Endless.{arrived, served, endless, pickAt}
 use Rattle.schedule.proofs.Admitted.{is-sound}
 use Rattle.schedule.proofs.Arrivals.{upTo-iff}
 use Rattle.schedule.proofs.Run.{Sound}
@@ -24,7 +25,7 @@ use Rattle.schedule.proofs.Schedule.{endless-slots}
 use Rattle.answer.specs.Tables.{byteOf, preempts}
 use Rattle.state.specs.State.{at, present, KeptBefore, KeptAt, Clear, First, Late, Picked, Served, Fitting, Sized, AllReleased}
 use Rattle.state.specs.Engine.{plenty, Loaded, Instant, Put, Stepped}
-use Rattle.state.proofs.Moves.{owed-waits, picked-is, kept-served, first-miss, clear-next, nothing-owed, kept-released}
+use Rattle.state.proofs.Moves.{owed-waits, picked-is, kept-served, first-miss, clear-next, kept-released}
 use Rattle.state.proofs.Preempted.{preempted}
 
 module _ {l : List Task} {n : ℕ} {run deadline period : List ℕ} (L : Loaded l n run deadline period) where
@@ -89,6 +90,24 @@ module _ {l : List Task} {n : ℕ} {run deadline period : List ℕ} (L : Loaded 
         keys-size = I .sized .keys-size;
       }
 
+      -- no more than one job's run time is owed
+      one-job : (i : ℕ) → i < length l → at owed₁ i ≤ task l i .run
+      one-job i b = elim (decLt 0 (at owed₁ i)) [
+        | no h ↦ omega arith
+        | yes h ↦
+            let W = kept₁ .working i b h in
+            omega (arith, kept₁ .owed-is i b, ap (λ (a : ℕ). task l i .run * a) (W .last), div-mul-le-self (at (served p l (suc t)) i) (task l i .run))
+      ]
+
+      pub fitting : t < plenty → Fitting n (t + 1) run deadline period owed₁ next
+      fitting q i b e =
+          let il : i < length l = omega (arith, L .counted) in
+          let F = ok .fine i il in (
+            omega (arith, one-job i il, L .unpacked .run-is i il, F .fits, F .within, F .short),
+            omega (arith, L .unpacked .period-is i il, F .short),
+            omega (arith, L .unpacked .deadline-is i il, F .within, F .short),
+          )
+
       module _ {missed : ℕ} (f : First (Late owed₁ dues (t + 1)) n missed) where
         first-is : First (Late owed₁ dues (suc t)) (length l) missed
         first-is = rw (add-one, L .counted) at f
@@ -98,17 +117,6 @@ module _ {l : List Task} {n : ℕ} {run deadline period : List ℕ} (L : Loaded 
 
         clear₁ : n ≤ missed → Clear p l (suc t)
         clear₁ h = clear-next p w timely (suc t) owed₁ next dues keys kept₁ t missed first-is (omega (arith, L .counted)) (I .clear) refl
-
-        pub fitting : n ≤ missed → t < plenty → Fitting n (t + 1) run deadline period owed₁ next
-        fitting h q i b e =
-            let il : i < length l = omega (arith, L .counted) in
-            let F = ok .fine i il in
-            let z : at owed₁ i ≡ 0 =
-            nothing-owed p w (λ j d. ok .fine j d .within) (suc t) owed₁ next dues keys kept₁ (clear₁ h) i il (e ∙ add-one t) in (
-              omega (arith, z, L .unpacked .run-is i il, F .fits, F .within, F .short),
-              omega (arith, L .unpacked .period-is i il, F .short),
-              omega (arith, L .unpacked .deadline-is i il, F .within, F .short),
-            )
 
         module _ {owed₂ next₂ dues₂ keys₂ : List ℕ} (on : n ≤ missed)
             (rel : AllReleased p n (t + 1) run deadline period owed₁ next dues keys owed₂ next₂ dues₂ keys₂) where

@@ -6,8 +6,6 @@ use native.Mathlib.Omega.{arith}
 use Rattle.state.proofs.Parts.{SoFar, so-far-start, so-far-all, so-far-none, so-far-kept, so-far-taken}
 use Rattle.checker.proofs.part.pick.Statement.{statement}
 use Rattle.checker.proofs.part.pick.Tie as tie
-use Rattle.checker.proofs.part.pick.Reads as reads
-use Rattle.checker.proofs.part.pick.Lts as lts
 
 abbrev Inv-loop : tie.InvT-loop
 Inv-loop owed keys n best₀ least₀ i₀ best least i = (i ≤ n) × SoFar owed keys n i best least
@@ -18,23 +16,17 @@ abbrev μ-loop : tie.MeasureT-loop
 loop-holds : tie.Need-loop-holds Inv-loop μ-loop
 loop-holds c = (omega arith, so-far-start _ _ _)
 
+mul-key : tie.Need-mul-key Inv-loop μ-loop
+mul-key c = omega arith
+
+element-copy-out-key : tie.Need-element-copy-out-key Inv-loop μ-loop
+element-copy-out-key c = omega arith
+
 mul-if1 : tie.Need-mul-if1 Inv-loop μ-loop
 mul-if1 c = omega arith
 
 element-copy-out-if1 : tie.Need-element-copy-out-if1 Inv-loop μ-loop
 element-copy-out-if1 c = omega arith
-
-mul-if2 : tie.Need-mul-if2 Inv-loop μ-loop
-mul-if2 c = omega arith
-
-element-copy-out-if2 : tie.Need-element-copy-out-if2 Inv-loop μ-loop
-element-copy-out-if2 c = omega arith
-
-mul-least : tie.Need-mul-least Inv-loop μ-loop
-mul-least c = omega arith
-
-element-copy-out-least : tie.Need-element-copy-out-least Inv-loop μ-loop
-element-copy-out-least c = omega arith
 
 add-i : tie.Need-add-i Inv-loop μ-loop
 add-i c = omega arith
@@ -44,17 +36,17 @@ loop-less c = omega arith
 
 loop-again : tie.Need-loop-again Inv-loop μ-loop
 loop-again c =
-    let l = c .before .before .before in
+    let l = c .before .before .before .before in
     let x = l .before in
     let o = x .args .owed .now in
     let k = x .args .keys .now in
     let s = l .loop .inv .1 in (
       omega arith,
       ⊎-elim
-          (λ w. rw (w .4, w .5) (so-far-taken o k (x .args .n) (l .loop .i) (l .loop .best) (l .loop .least) (omega arith) s (omega (arith, w .0 .taken)) (w .2 .taken)))
+          (λ w. rw (w .2, w .3) (so-far-taken o k (x .args .n) (l .loop .i) (l .loop .best) (l .loop .least) (omega arith) s (omega (arith, w .0 .taken)) (w .1 .taken)))
           (⊎-elim
-          (λ w. rw (w .3, w .4) (so-far-kept o k (x .args .n) (l .loop .i) (l .loop .best) (l .loop .least) (omega arith) s
-          (x .pre .1 (l .loop .i) (omega arith) (omega (arith, w .0 .taken))) (w .2 .left)))
+          (λ w. rw (w .2, w .3) (so-far-kept o k (x .args .n) (l .loop .i) (l .loop .best) (l .loop .least) (omega arith) s
+          (x .pre .1 (l .loop .i) (omega arith) (omega (arith, w .0 .taken))) (w .1 .left)))
           (λ w. rw (w .1, w .2) (so-far-none o k (x .args .n) (l .loop .i) (l .loop .best) (l .loop .least) (omega arith) s (w .0 .left))))
           (c .if1 .came),
     )
@@ -73,12 +65,10 @@ pick-spec =
     Inv-loop
     μ-loop
     loop-holds
+    mul-key
+    element-copy-out-key
     mul-if1
     element-copy-out-if1
-    mul-if2
-    element-copy-out-if2
-    mul-least
-    element-copy-out-least
     add-i
     loop-less
     loop-again

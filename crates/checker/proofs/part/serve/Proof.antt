@@ -4,8 +4,6 @@ use Rattle.state.proofs.Parts.{served-idle, served-done, served-left}
 use borrow.Author.Needs.{needs}
 use Rattle.checker.proofs.part.serve.Statement.{statement}
 use Rattle.checker.proofs.part.serve.Tie as tie
-use Rattle.checker.proofs.part.serve.Reads as reads
-use Rattle.checker.proofs.part.serve.Lts as lts
 
 returns : tie.Need-returns
 returns c = served-idle (c .before .args .n) (c .before .args .chosen) (c .before .args .owed .now) (c .if1 .taken)

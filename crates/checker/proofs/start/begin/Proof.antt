@@ -1,12 +1,12 @@
 -- `begin` meets its contract.
 use native.Mathlib.Omega.{arith}
 use Rattle.state.proofs.Stepping.{few, keys-small}
-use Rattle.state.proofs.Spreading.{fitting-start, kept-first, instant-first}
+use Rattle.state.proofs.Spreading.{fitting-start, none-late, kept-first, instant-first}
 use Rattle.checker.proofs.start.begin.Statement.{statement}
 use Rattle.checker.proofs.start.begin.Tie as tie
 
-release-requires : tie.Need-release-requires
-release-requires c κs =
+arrive-requires : tie.Need-arrive-requires
+arrive-requires c κs =
     let x = c .before .before .before .before in
     (few (x .pre .0 .1), (x .pre .1, fitting-start (x .pre .0 .1) (x .pre .0 .2)))
 
@@ -14,12 +14,17 @@ pick-requires : tie.Need-pick-requires
 pick-requires c κs =
     let r = c .before .before in
     let x = r .before .before .before .before .before in
-    (few (x .pre .0 .1), keys-small (x .pre .0 .1) (omega arith) (kept-first (x .pre .0 .1) (x .pre .0 .2) (r .release .ensures)))
+    let L = x .pre .0 .1 in
+    let f = x .pre .0 .2 in
+    let a = r .arrive .ensures in
+    (few L, keys-small L (omega arith) (kept-first L f (a .1 (none-late L f (x .args .dues .now) 0 (r .arrive .result) (a .0)))))
 
 returns : tie.Need-returns
 returns c =
     let r = c .before .before .before in
-    λ l L f. instant-first L f (r .release .ensures) (c .pick .ensures)
+    let x = r .before .before .before .before .before in
+    let a = r .arrive .ensures in
+    λ l L f. instant-first L f (a .1 (none-late L f (x .args .dues .now) 0 (r .arrive .result) (a .0))) (c .pick .ensures)
 
 pub begin-spec : {M : Type 1} → statement M
-begin-spec = tie.close (tie.spec release-requires pick-requires returns)
+begin-spec = tie.close (tie.spec arrive-requires pick-requires returns)

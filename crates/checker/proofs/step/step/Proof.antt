@@ -19,8 +19,13 @@ serve-requires c κs =
 add-instant : tie.Need-add-instant
 add-instant c = search needs
 
-late-requires : tie.Need-late-requires
-late-requires c κs = few (c .before .before .before .before .before .before .before .before .before .pre .0 .1)
+arrive-requires : tie.Need-arrive-requires
+arrive-requires c κs =
+    let s = c .before .before .before .before in
+    let x = s .before .before .before .before .before .before .before in
+    let L = x .pre .0 .1 in
+    let I = x .pre .0 .2 in
+    (few L, (sized₁ L I (s .serve .ensures), fitting L I (s .serve .ensures) (omega arith)))
 
 same-length : tie.Need-same-length
 same-length c = search needs
@@ -28,28 +33,18 @@ same-length c = search needs
 returns : tie.Need-returns
 returns c =
     let f = c .before in
-    let s = f .before .before .before in
-    (λ l L I. stepped-missed L I (s .serve .ensures) (f .late .ensures) (c .if1 .taken) (s .before .before .before .before .put .ensures), refl)
-
-release-requires : tie.Need-release-requires
-release-requires c κs =
-    let e = c .before .before .before .before in
-    let f = e .before in
-    let s = f .before .before .before in
-    let x = s .before .before .before .before .before .before .before in
-    let L = x .pre .0 .1 in
-    let I = x .pre .0 .2 in
-    (few L, (sized₁ L I (s .serve .ensures), fitting L I (s .serve .ensures) (f .late .ensures) (e .if1 .left) (omega arith)))
+    let s = f .before .before .before .before .before in
+    (λ l L I. stepped-missed L I (s .serve .ensures) (f .arrive .ensures .0) (c .if1 .taken) (s .before .before .before .before .put .ensures), refl)
 
 pick-requires : tie.Need-pick-requires
 pick-requires c κs =
-    let r = c .before .before in
-    let e = r .before .before .before .before .before in
+    let e = c .before .before in
     let f = e .before in
-    let s = f .before .before .before in
+    let s = f .before .before .before .before .before in
     let x = s .before .before .before .before .before .before .before in
     let L = x .pre .0 .1 in
-    (few L, keys-small L (omega arith) (kept₂ L (x .pre .0 .2) (s .serve .ensures) (f .late .ensures) (e .if1 .left) (r .release .ensures)))
+    let a = f .arrive .ensures in
+    (few L, keys-small L (omega arith) (kept₂ L (x .pre .0 .2) (s .serve .ensures) (a .0) (e .if1 .left) (a .1 (e .if1 .left))))
 
 switched-requires : tie.Need-switched-requires
 switched-requires c κs = search needs
@@ -60,13 +55,12 @@ same-length-2 c = search needs
 returns-2 : tie.Need-returns-2
 returns-2 c =
     let k = c .before in
-    let r = k .before .before .before in
-    let e = r .before .before .before .before .before in
+    let e = k .before .before .before in
     let f = e .before in
-    let s = f .before .before .before in
-    let u = s .before .before .before .before in (
-      λ l L I. stepped-on L I (s .serve .ensures) (f .late .ensures) (e .if1 .left) (r .release .ensures) (u .put .ensures)
-          (k .pick .ensures) (c .switched .ensures),
+    let s = f .before .before .before .before .before in
+    let u = s .before .before .before .before in
+    let a = f .arrive .ensures in (
+      λ l L I. stepped-on L I (s .serve .ensures) (a .0) (e .if1 .left) (a .1 (e .if1 .left)) (u .put .ensures) (k .pick .ensures) (c .switched .ensures),
       refl,
     )
 
@@ -77,10 +71,9 @@ step-spec =
     put-requires
     serve-requires
     add-instant
-    late-requires
+    arrive-requires
     same-length
     returns
-    release-requires
     pick-requires
     switched-requires
     same-length-2
