@@ -43,16 +43,29 @@ struct sholakpite_task {
  * Checks a list under a policy.
  *
  * list     O C D T for each task: offset, run time, deadline, period; list_len counts words. It is only read.
- * startup  gets slots 0 to M + H - 1 of a feasible list, cycle the H slots after them, which repeat for ever.
- *          Both may be longer than needed; entries that are not named keep their bytes.
- * row      gets the answer's values; words that are not named keep their values.
+ * startup  needs M + H entries, where M is the largest offset and H the least common multiple of the periods: 32,768 are
+ *          always enough. cycle needs H: 16,384 are always enough. Both may be longer.
+ * row      gets the answer's values; words that are not named above keep their values.
  *
- * A list that can't be judged (no task, more than 16, a number outside its limits, a hyperperiod above 16,384) or
- * a buffer that is too short is refused by number, and neither table is written.
- * SHOLAKPITE_NOT_UNDERSTOOD, with nothing written, is answered exactly when policy is above 3, list_len is not a
- * multiple of 4, or row_len is below 8.
+ * Feasible: no deadline is ever missed. startup has slots 0 to M + H - 1, and cycle the H slots after them, which repeat
+ * for ever. Missed: the first miss is at an instant d. startup has the slots below d and below M + H, and cycle those
+ * from M + H to d - 1. Entries that are not named keep their bytes; where a list is overloaded or refused, all do.
  *
- * No pointer may be NULL, not even for a length of 0, and the four regions may not overlap.
+ * Refused, by the first number that applies, task by task from 2 to 5:
+ *   1, task 0   no task, or more than 16
+ *   2, task i   T is 0 or above 16,384
+ *   3, task i   C is 0 or above D
+ *   4, task i   D is above T
+ *   5, task i   O is above 16,384
+ *   6, task 0   H is above 16,384
+ *   7, task 0   startup is shorter than M + H
+ *   8, task 0   cycle is shorter than H
+ *
+ * Not understood, with nothing written, exactly when policy is above 3, list_len is not a multiple of 4, or row_len is
+ * below 8.
+ *
+ * No pointer may be NULL, not even for a length of 0, all memory that is lent has been written before, and the four
+ * regions do not overlap.
  */
 uint64_t sholakpite_check(uint64_t policy, const uint64_t *list, size_t list_len, uint8_t *startup, size_t startup_len,
                           uint8_t *cycle, size_t cycle_len, uint64_t *row, size_t row_len);

@@ -12,14 +12,5 @@ pub fn check(
     cycle: &mut [u8],
     row: &mut [u64; ROW],
 ) -> u64 {
-    sholakpite::check_words(number_of(policy), list, startup, cycle, row)
-}
-
-fn number_of(policy: Policy) -> u64 {
-    match policy {
-        Policy::ListOrder => 0,
-        Policy::RateMonotonic => 1,
-        Policy::DeadlineMonotonic => 2,
-        Policy::EarliestDeadlineFirst => 3,
-    }
+    sholakpite::check_words(policy as u64, list, startup, cycle, row)
 }

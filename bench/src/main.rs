@@ -3,7 +3,7 @@
 mod library;
 mod lists;
 
-use bench::plain::{Answer, Policy, Task, plain_check};
+use bench::plain::{Answer, Policy, Task, plain_loop, plain_passes};
 use std::hint::black_box;
 use std::time::Instant;
 
@@ -23,7 +23,10 @@ const POLICIES: [(Policy, &str); 4] = [
     (Policy::EarliestDeadlineFirst, "EDF"),
 ];
 
-/// A list in both checkers' forms, and the buffers that both write to.
+type Plain = fn(&[Task], Policy, &mut [u8], &mut [u8]) -> Answer;
+const PLAIN: [(Plain, &str); 2] = [(plain_passes, "passes"), (plain_loop, "loop")];
+
+/// A list in both forms, and the buffers that every checker writes to.
 struct Bench {
     tasks: Vec<Task>,
     words: Vec<u64>,
@@ -32,29 +35,21 @@ struct Bench {
     cycle: Vec<u8>,
 }
 
-/// One line of the table: the medians over all rounds.
-struct Line {
-    ratio: f64,
-    library: f64,
-    plain: f64,
-}
+/// Nanoseconds of one round: the library, then each plain checker.
+type Round = (f64, [f64; PLAIN.len()]);
 
 fn main() {
     println!("note repetitions: {ROUNDS} rounds (library, plain) after {WARM_UP_ROUNDS} untimed");
-    println!("note buffers: one pair for both checkers, filled before timing, never cleared");
+    println!("note buffers: one pair for all checkers, filled before timing, never cleared");
     for tasks in lists::all() {
         let mut bench = Bench::new(tasks);
         println!("{}", bench.note());
         for (policy, name) in POLICIES {
-            bench.assert_same_answer(policy);
-            let line = bench.measure(policy);
-            println!(
-                "row {} {name} {:.4} {:.3} {:.3}",
-                bench.tasks.len(),
-                line.ratio,
-                line.library,
-                line.plain
-            );
+            bench.assert_same_answers(policy);
+            let rounds = bench.measure(policy);
+            for (at, (_, plain)) in PLAIN.iter().enumerate() {
+                bench.print_row(name, plain, &rounds, at);
+            }
         }
     }
 }
@@ -89,36 +84,44 @@ impl Bench {
         )
     }
 
-    fn assert_same_answer(&self, policy: Policy) {
-        let mut row = [0; library::ROW];
-        let mut tables = (self.startup.clone(), self.cycle.clone());
-        // Other bytes than the measured buffers hold, the same for both checkers.
-        tables.0.fill(77);
-        tables.1.fill(77);
-        let mut others = tables.clone();
-        let code = library::check(policy, &self.words, &mut tables.0, &mut tables.1, &mut row);
-        let answer = plain_check(&self.tasks, policy, &mut others.0, &mut others.1);
-        let (expected, numbers) = numbers_of(&answer);
-        assert_eq!(code, expected, "verdict under {policy:?}");
-        assert_eq!(code, 0, "a measured list is feasible under {policy:?}");
-        assert_eq!(row[..numbers.len()], numbers, "counts under {policy:?}");
-        assert!(tables == others, "tables under {policy:?}");
+    /// The medians over all rounds, as one line of the table.
+    fn print_row(&self, policy: &str, plain: &str, rounds: &[Round], at: usize) {
+        let slots = self.slots as f64;
+        println!(
+            "row {} {policy} {plain} {:.4} {:.3} {:.3}",
+            self.tasks.len(),
+            median(rounds.iter().map(|(library, plain)| library / plain[at])),
+            median(rounds.iter().map(|(library, _)| library / slots)),
+            median(rounds.iter().map(|(_, plain)| plain[at] / slots))
+        );
     }
 
-    fn measure(&mut self, policy: Policy) -> Line {
+    fn assert_same_answers(&self, policy: Policy) {
+        // Other bytes than the measured buffers hold, the same for every checker.
+        let startup = vec![77; self.startup.len()];
+        let cycle = vec![77; self.cycle.len()];
+        let mut row = [0; library::ROW];
+        let mut tables = (startup.clone(), cycle.clone());
+        let code = library::check(policy, &self.words, &mut tables.0, &mut tables.1, &mut row);
+        assert_eq!(code, 0, "a measured list is feasible under {policy:?}");
+        for (plain, name) in PLAIN {
+            let mut others = (startup.clone(), cycle.clone());
+            let answer = plain(&self.tasks, policy, &mut others.0, &mut others.1);
+            assert_eq!(row[..7], numbers_of(&answer), "{name}, {policy:?}");
+            assert!(tables == others, "tables of {name}, {policy:?}");
+        }
+    }
+
+    fn measure(&mut self, policy: Policy) -> Vec<Round> {
         let mut rounds = Vec::with_capacity(ROUNDS);
         for round in 0..WARM_UP_ROUNDS + ROUNDS {
-            let pair = (self.time_library(policy), self.time_plain(policy));
+            let library = self.time_library(policy);
+            let plain = PLAIN.map(|(plain, _)| self.time_plain(plain, policy));
             if round >= WARM_UP_ROUNDS {
-                rounds.push(pair);
+                rounds.push((library, plain));
             }
         }
-        let slots = self.slots as f64;
-        Line {
-            ratio: median(rounds.iter().map(|(library, plain)| library / plain)),
-            library: median(rounds.iter().map(|(library, _)| library / slots)),
-            plain: median(rounds.iter().map(|(_, plain)| plain / slots)),
-        }
+        rounds
     }
 
     /// Nanoseconds of one run of the library.
@@ -136,10 +139,10 @@ impl Bench {
         start.elapsed().as_nanos() as f64
     }
 
-    /// Nanoseconds of one run of the plain checker.
-    fn time_plain(&mut self, policy: Policy) -> f64 {
+    /// Nanoseconds of one run of a plain checker.
+    fn time_plain(&mut self, plain: Plain, policy: Policy) -> f64 {
         let start = Instant::now();
-        let answer = plain_check(
+        let answer = plain(
             black_box(&self.tasks),
             black_box(policy),
             black_box(&mut self.startup),
@@ -159,31 +162,26 @@ fn words_of(tasks: &[Task]) -> Vec<u64> {
 
 /// The slots of a whole walk, the same under each policy that finds the list feasible.
 fn slots_of(tasks: &[Task], startup: &mut [u8], cycle: &mut [u8]) -> u64 {
-    match plain_check(tasks, Policy::EarliestDeadlineFirst, startup, cycle) {
+    match plain_passes(tasks, Policy::EarliestDeadlineFirst, startup, cycle) {
         Answer::Feasible { frame, .. } => frame.end(),
         other => panic!("a measured list is feasible, not {other:?}"),
     }
 }
 
-/// The plain checker's answer as the library's number and row.
-fn numbers_of(answer: &Answer) -> (u64, Vec<u64>) {
-    match *answer {
-        Answer::Feasible { frame, counts } => (
-            0,
-            vec![
-                frame.largest_offset,
-                frame.hyperperiod,
-                frame.load,
-                counts.idle_startup,
-                counts.idle_cycle,
-                counts.preemptions_startup,
-                counts.preemptions_cycle,
-            ],
-        ),
-        Answer::Missed { task, instant } => (1, vec![task as u64, instant]),
-        Answer::Overloaded { load, hyperperiod } => (2, vec![load, hyperperiod]),
-        Answer::Refused { number, task } => (3, vec![number, task as u64]),
-    }
+/// M, H, L and the counts of a feasible answer, as the library's row has them.
+fn numbers_of(answer: &Answer) -> [u64; 7] {
+    let Answer::Feasible { frame, counts } = answer else {
+        panic!("a measured list is feasible, not {answer:?}");
+    };
+    [
+        frame.largest_offset,
+        frame.hyperperiod,
+        frame.load,
+        counts.idle_startup,
+        counts.idle_cycle,
+        counts.preemptions_startup,
+        counts.preemptions_cycle,
+    ]
 }
 
 fn median(values: impl Iterator<Item = f64>) -> f64 {

@@ -1,4 +1,4 @@
-//! A plain checker that walks the schedule slot by slot, as the paper tells it.
+//! Plain checkers that walk the schedule slot by slot: one as the paper tells it, pass by pass, and one in a single loop.
 
 /// Table entry of a slot that serves no job.
 pub const IDLE: u8 = 255;
@@ -11,6 +11,7 @@ pub struct Task {
     pub period: u64,
 }
 
+/// In the order of the library's numbers.
 #[derive(Clone, Copy, Debug, PartialEq, Eq)]
 pub enum Policy {
     ListOrder,
@@ -113,12 +114,46 @@ impl Job {
     fn misses_at(&self, instant: u64) -> bool {
         self.is_ready() && self.due == instant
     }
+
+    fn release(&mut self, policy: Policy, number: usize, task: &Task, instant: u64) {
+        self.next_release = instant + task.period;
+        self.due = instant + task.deadline;
+        self.left = task.run;
+        self.key = policy.key(number, task, self.due);
+    }
 }
 
-/// Checks the list, then walks the schedule and fills both tables.
+/// Fills both tables and counts, for a list that is neither refused nor overloaded.
+type Walk = fn(&[Task], Policy, Frame, &mut [u8], &mut [u8]) -> Answer;
+
+/// At each instant a pass for the misses, one for the releases and one for the choice.
 #[inline(never)]
 #[unsafe(no_mangle)]
-pub fn plain_check(tasks: &[Task], policy: Policy, startup: &mut [u8], cycle: &mut [u8]) -> Answer {
+pub fn plain_passes(
+    tasks: &[Task],
+    policy: Policy,
+    startup: &mut [u8],
+    cycle: &mut [u8],
+) -> Answer {
+    check(walk_passes, tasks, policy, startup, cycle)
+}
+
+/// At each instant one loop over the tasks, for all three.
+#[inline(never)]
+#[unsafe(no_mangle)]
+pub fn plain_loop(tasks: &[Task], policy: Policy, startup: &mut [u8], cycle: &mut [u8]) -> Answer {
+    check(walk_loop, tasks, policy, startup, cycle)
+}
+
+/// Checks the list, then walks the schedule.
+#[inline(always)]
+fn check(
+    walk: Walk,
+    tasks: &[Task],
+    policy: Policy,
+    startup: &mut [u8],
+    cycle: &mut [u8],
+) -> Answer {
     let frame = match frame_of(tasks) {
         Ok(frame) => frame,
         Err(refused) => return refused,
@@ -176,7 +211,7 @@ fn gcd(a: u64, b: u64) -> u64 {
 }
 
 /// Walks all slots up to the one after the tables, which decides the last preemption.
-fn walk(
+fn walk_passes(
     tasks: &[Task],
     policy: Policy,
     frame: Frame,
@@ -209,10 +244,7 @@ fn walk(
 fn release(jobs: &mut [Job], tasks: &[Task], policy: Policy, instant: u64) {
     for (number, (job, task)) in jobs.iter_mut().zip(tasks).enumerate() {
         if job.next_release == instant {
-            job.next_release = instant + task.period;
-            job.due = instant + task.deadline;
-            job.left = task.run;
-            job.key = policy.key(number, task, job.due);
+            job.release(policy, number, task, instant);
         }
     }
 }
@@ -224,6 +256,46 @@ fn pick(jobs: &[Job]) -> Option<usize> {
         .filter(|(_, job)| job.is_ready())
         .min_by_key(|(_, job)| job.key)
         .map(|(number, _)| number)
+}
+
+/// The same, with one loop over the tasks at each instant.
+fn walk_loop(
+    tasks: &[Task],
+    policy: Policy,
+    frame: Frame,
+    startup: &mut [u8],
+    cycle: &mut [u8],
+) -> Answer {
+    let mut jobs: Vec<Job> = tasks.iter().map(Job::before_first).collect();
+    let mut counts = Counts::default();
+    let mut last_served = None;
+    for instant in 0..=frame.end() {
+        let unfinished = last_served.filter(|&number: &usize| jobs[number].is_ready());
+        let mut served = None;
+        let mut least = u64::MAX;
+        for (number, (job, task)) in jobs.iter_mut().zip(tasks).enumerate() {
+            if job.misses_at(instant) {
+                let task = number;
+                return Answer::Missed { task, instant };
+            }
+            if job.next_release == instant {
+                job.release(policy, number, task, instant);
+            }
+            if job.is_ready() && job.key < least {
+                served = Some(number);
+                least = job.key;
+            }
+        }
+        if unfinished.is_some() && served != unfinished {
+            counts.note_preemption(instant, &frame);
+        }
+        if let Some(number) = served {
+            jobs[number].left -= 1;
+        }
+        counts.note_slot(instant, served, &frame, startup, cycle);
+        last_served = served;
+    }
+    Answer::Feasible { frame, counts }
 }
 
 impl Counts {

@@ -70,11 +70,13 @@ pub struct Plan {
 pub enum Answer {
     /// No deadline is ever missed, and the two tables are the schedule for all time.
     Feasible(Plan),
-    /// The first miss.
+    /// The first miss. The tables have the slots before it.
     Missed { task: u64, instant: u64 },
-    /// The tasks want more slots than there are.
+    /// The tasks want more slots than there are. Neither table is written.
     Overloaded { load: u64, hyperperiod: u64 },
-    /// The list, or a buffer, is refused, by document 01's number.
+    /// The list, or a buffer, is refused, and neither table is written: 1 no task or more than 16; 2 the period is 0 or
+    /// above 16,384; 3 the run time is 0 or above the deadline; 4 the deadline is above the period; 5 the offset is above
+    /// 16,384; 6 the hyperperiod is above 16,384; 7 `startup` is shorter than M + H; 8 `cycle` is shorter than H.
     Refused { number: u64, task: u64 },
 }
 
@@ -118,7 +120,7 @@ pub fn check_words(
     cycle: &mut [u8],
     row: &mut [u64],
 ) -> u64 {
-    // A slice is never null, and the three that are written are borrowed from nobody else.
+    // A slice is never null, its memory is initialised, and the three that are written are borrowed by nobody else.
     unsafe {
         sholakpite_check(
             policy,
@@ -142,7 +144,7 @@ pub fn check_tasks(
     cycle: &mut [u8],
     row: &mut [u64],
 ) -> u64 {
-    // As above.
+    // As above; a `Task` is four 64-bit words in this order, as it is behind the function.
     unsafe {
         sholakpite_check_tasks(
             policy,

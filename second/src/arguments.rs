@@ -3,6 +3,7 @@
 use std::str::FromStr;
 
 pub const USAGE: &str = "second [--seed N] [--lists N] [--say]\n\
+    (a run in which an answer never came fails, so fewer than some 20,000 lists may)\n\
     second --try \"POLICY O C D T O C D T ...\" [--startup N] [--cycle N] [--row N]";
 
 pub struct Arguments {

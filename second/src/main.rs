@@ -71,7 +71,7 @@ fn hold_table(seed: u64) -> bool {
         println!("FAILED: the paper's list {failure}");
     }
     println!(
-        "the paper's table: {} calls, {} failures",
+        "the paper's table: {} lists and policies, {} failures",
         table::size(),
         failures.len()
     );

@@ -9,7 +9,7 @@ impl Random {
         Random { state: seed }
     }
 
-    /// A generator of its own for each list, so that one list can be made alone.
+    /// A generator of its own for each list, so that no list hangs on those before it.
     pub fn for_list(seed: u64, number: u64) -> Random {
         let mut first = Random::new(seed);
         let mixed = first.next() ^ number;

@@ -24,7 +24,8 @@ pub fn try_one(words: &[u64], arguments: &Arguments) -> bool {
     let mut reasons = verdict.broken;
     for (entry, library) in by_library(&case, &buffers) {
         print(&format!("library, {entry}"), &case, &library);
-        reasons.extend(differences(&walk, &library));
+        let found = differences(&walk, &library);
+        reasons.extend(found.iter().map(|reason| format!("{entry}: {reason}")));
     }
     for reason in &reasons {
         println!("DIFFERENT: {reason}");

@@ -1,7 +1,7 @@
 //! The paper's own lists and borders, to which both programs are held.
 
 use crate::case::Case;
-use crate::compare::{by_library, by_walk, describe, Outcome};
+use crate::compare::{by_library, by_walk, describe, differences, Outcome};
 use crate::lent::{Buffers, Lent};
 use crate::random::Random;
 use crate::verdict::judge;
@@ -144,29 +144,30 @@ pub fn hold_all(random: &mut Random) -> Vec<String> {
     let mut failures = Vec::new();
     for tried in TABLE {
         for &policy in tried.policies {
-            let case = Case {
-                startup_len: tried.startup_len,
-                cycle_len: tried.cycle_len,
-                ..Case::exact(policy, tried.tasks.concat())
-            };
-            let before = Buffers::for_case(random, &case);
-            let verdict = judge(&case);
-            let broken = verdict.broken.iter();
-            failures.extend(broken.map(|claim| format!("{}: {claim}", tried.name)));
-            let walk = by_walk(&verdict, before.clone());
-            let mut outcomes = by_library(&case, &before);
-            outcomes.push(("walk", walk));
-            for (who, outcome) in outcomes {
-                if let Some(failure) = held(tried, &before, &outcome) {
-                    let name = tried.name;
-                    let answer = describe(&outcome);
-                    failures.push(format!(
-                        "{name}, policy {policy}, {who}: {failure}; {answer}"
-                    ));
-                }
-            }
+            let name = format!("{}, policy {policy}", tried.name);
+            let found = hold(tried, policy, random);
+            failures.extend(found.iter().map(|failure| format!("{name}, {failure}")));
         }
     }
+    failures
+}
+
+/// One list under one policy: each program held to the paper, and the library to the walk where the paper is silent.
+fn hold(tried: &Tried, policy: u64, random: &mut Random) -> Vec<String> {
+    let case = Case {
+        startup_len: tried.startup_len,
+        cycle_len: tried.cycle_len,
+        ..Case::exact(policy, tried.tasks.concat())
+    };
+    let before = Buffers::for_case(random, &case);
+    let verdict = judge(&case);
+    let walk = by_walk(&verdict, before.clone());
+    let mut failures = verdict.broken;
+    for (who, outcome) in by_library(&case, &before) {
+        failures.extend(held(tried, &before, who, &outcome));
+        failures.extend(differences(&walk, &outcome));
+    }
+    failures.extend(held(tried, &before, "walk", &walk));
     failures
 }
 
@@ -175,7 +176,12 @@ pub fn size() -> usize {
 }
 
 /// What an outcome has that the paper says otherwise.
-fn held(tried: &Tried, before: &Buffers, after: &Outcome) -> Option<String> {
+fn held(tried: &Tried, before: &Buffers, who: &str, after: &Outcome) -> Option<String> {
+    let failure = other_than_the_paper(tried, before, after)?;
+    Some(format!("{who}: {failure}; {}", describe(after)))
+}
+
+fn other_than_the_paper(tried: &Tried, before: &Buffers, after: &Outcome) -> Option<String> {
     if after.code != tried.code {
         return Some(format!("code {} for {}", after.code, tried.code));
     }

@@ -7,7 +7,7 @@ use lib.ListN.{length}
 use Rattle.task.specs.declared.Task.{Task}
 use Rattle.task.specs.declared.list.Tasks.{Tasks}
 use Rattle.task.specs.Limits.{mostTasks}
-use Rattle.task.specs.Tasks.{Holds}
+use Rattle.task.specs.Arrays.{Holds}
 use Rattle.task.proofs.Held.{held}
 use Rattle.refusal.specs.Refusals.{numberOf, refused}
 use Rattle.refusal.proofs.Pinned.{number-once}

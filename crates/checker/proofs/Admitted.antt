@@ -10,7 +10,7 @@ use Rattle.refusal.specs.declared.Refusal.{Refusal}
 use Rattle.task.specs.declared.Task.{Task}
 use Rattle.task.specs.declared.list.Tasks.{Tasks}
 use Rattle.task.specs.Limits.{mostTasks}
-use Rattle.task.specs.Tasks.{Holds}
+use Rattle.task.specs.Arrays.{Holds}
 use Rattle.task.specs.Checks.{firstRefusal}
 use Rattle.task.proofs.Refusing.{passed}
 use Rattle.task.proofs.Held.{held}

@@ -6,7 +6,7 @@ ghost use lib.ListN.{length, take};
 ghost use Rattle.refusal.specs.Refusals.{sound};
 ghost use Rattle.task.specs.declared.Task.{Task};
 ghost use Rattle.task.specs.Limits.{mostTasks};
-ghost use Rattle.task.specs.Tasks.{Holds};
+ghost use Rattle.task.specs.Arrays.{Holds};
 ghost use Rattle.task.specs.Checks.{firstRefusal};
 ghost use Rattle.admission.specs.Admissions.{measuresOf};
 ghost use Rattle.answer.specs.Answers.{row};

@@ -9,7 +9,7 @@ mod tables;
 
 ghost use mathlib.Core.List.{List};
 ghost use Rattle.task.specs.declared.Task.{Task};
-ghost use Rattle.task.specs.Tasks.{Holds};
+ghost use Rattle.task.specs.Arrays.{Holds};
 ghost use Rattle.answer.specs.Promise.{Promised};
 use answer::Answer;
 use schedule::Policy;

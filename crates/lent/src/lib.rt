@@ -1,6 +1,6 @@
 // A list that is lent by the caller and only read. Document 01, "What a task list says".
 ghost use mathlib.Core.Path.{_≡_};
-ghost use Rattle.task.specs.Tasks.{arrayOf};
+ghost use Rattle.task.specs.Arrays.{arrayOf};
 ghost use Rattle.answer.specs.Promise.{Promised};
 use answer::Answer;
 use schedule::Policy;

@@ -4,7 +4,7 @@ mod words;
 
 ghost use mathlib.Core.List.{List};
 ghost use Rattle.task.specs.declared.Task.{Task};
-ghost use Rattle.task.specs.Tasks.{Holds};
+ghost use Rattle.task.specs.Arrays.{Holds};
 ghost use Rattle.sholakpite.specs.Words.{Answered, AnsweredWords};
 use crate::row::tell;
 use crate::words::policy_of;

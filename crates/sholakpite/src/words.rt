@@ -2,7 +2,7 @@
 ghost use mathlib.Core.Path.{_≡_};
 ghost use Prim.Native.Nat.{_+_, _*_, _<_};
 ghost use lib.ListN.{length};
-ghost use Rattle.task.specs.Tasks.{arrayOf};
+ghost use Rattle.task.specs.Arrays.{arrayOf};
 ghost use Rattle.sholakpite.specs.Words.{policyOf, tasksOf};
 ghost use Rattle.sholakpite.specs.Reading.{taskAt};
 use schedule::Policy;

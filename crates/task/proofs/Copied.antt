@@ -9,7 +9,8 @@ use lib.ListN.{length, take, set, replicate, length-take}
 use lib.Seq.{set-at, length-take-le, append-snoc, take-suc, take-at, take-all}
 use Rattle.task.specs.declared.Task.{Task}
 use Rattle.task.specs.Limits.{mostTasks}
-use Rattle.task.specs.Tasks.{nobody, task, Holds, blank, stored, copied, fitting, arrayOf}
+use Rattle.task.specs.Tasks.{nobody, task}
+use Rattle.task.specs.Arrays.{Holds, blank, stored, copied, fitting, arrayOf}
 
 pub copied-none : (l : List Task) → blank (length l) ≡ copied l 0
 unfolding blank copied

@@ -9,7 +9,8 @@ use lib.Seq.{take-all, take-at, take-suc-set, take-append-le, set-out}
 use Rattle.task.specs.declared.Task.{Task}
 use Rattle.task.specs.declared.list.Tasks.{Tasks}
 use Rattle.task.specs.Limits.{largest, mostTasks}
-use Rattle.task.specs.Tasks.{nobody, Holds, blank, empty, added}
+use Rattle.task.specs.Tasks.{nobody}
+use Rattle.task.specs.Arrays.{Holds, blank, empty, added}
 
 pub held-none : Holds empty []
 unfolding blank

@@ -1,7 +1,7 @@
 // Our own array of tasks, with a count. Document 01, "What a task list says".
 ghost use mathlib.Core.Path.{_≡_};
 ghost use lib.ListN.{set};
-ghost use Rattle.task.specs.Tasks.{blank, fitting, empty, stored, added};
+ghost use Rattle.task.specs.Arrays.{blank, fitting, empty, stored, added};
 use crate::Task;
 
 // The count is the list's true length, also where that is more than the array holds.

@@ -38,7 +38,7 @@ use denote.Exit.{yes}
 use denote.Triple.Clauses.{ensured, lasts}
 use Rattle.task.specs.declared.Task.{Task}
 use Rattle.task.specs.declared.list.Tasks.{Tasks}
-use Rattle.task.specs.Tasks.{Holds, arrayOf}
+use Rattle.task.specs.Arrays.{Holds, arrayOf}
 use Rattle.task.proofs.Copied.{held-array}
 use Rattle.schedule.specs.declared.Policy.{Policy}
 use Rattle.answer.specs.declared.Answer.{Answer}

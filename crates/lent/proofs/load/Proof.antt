@@ -48,7 +48,8 @@ use denote.Triple.Table.{entered, cited}
 use denote.Triple.Walked.{says, Stays, stay-none-slice, walkOf, goes-none-slice, Walks, ends-at, walked, walk-meets}
 use denote.Exit.{yes as kept}
 use denote.Triple.Clauses.{ensured, lasts}
-use Rattle.task.specs.Tasks.{nobody, blank, stored, fitting, copied, arrayOf}
+use Rattle.task.specs.Tasks.{nobody}
+use Rattle.task.specs.Arrays.{blank, stored, fitting, copied, arrayOf}
 use Rattle.task.specs.declared.Task.{Task}
 use Rattle.task.specs.declared.list.Tasks.{Tasks}
 use Rattle.task.proofs.Copied.{copied-none, copied-more}

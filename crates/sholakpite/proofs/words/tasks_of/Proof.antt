@@ -6,7 +6,7 @@ use borrow.Author.Needs.{needs}
 use lib.ListN.{length}
 use Rattle.task.specs.declared.Task.{Task}
 use Rattle.task.specs.declared.list.Tasks.{Tasks}
-use Rattle.task.specs.Tasks.{blank, stored, copied, fitting}
+use Rattle.task.specs.Arrays.{blank, stored, copied, fitting}
 use Rattle.task.proofs.Copied.{copied-none, copied-more}
 use Rattle.sholakpite.specs.Words.{tasksOf}
 use Rattle.sholakpite.proofs.Reading.{tasks-length, task-read}

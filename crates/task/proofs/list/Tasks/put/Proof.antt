@@ -4,7 +4,7 @@ use mathlib.Core.List.{List}
 use borrow.Author.Needs.{needs}
 use Rattle.task.specs.declared.Task.{Task}
 use Rattle.task.specs.declared.list.Tasks.{Tasks}
-use Rattle.task.specs.Tasks.{stored}
+use Rattle.task.specs.Arrays.{stored}
 use Rattle.task.proofs.list.Tasks.put.Statement.{statement}
 use Rattle.task.proofs.list.Tasks.put.Tie as tie
 

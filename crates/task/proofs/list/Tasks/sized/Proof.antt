@@ -5,7 +5,7 @@ use lib.ListN.{replicate}
 use Rattle.task.specs.declared.Task.{Task}
 use Rattle.task.specs.declared.list.Tasks.{Tasks}
 use Rattle.task.specs.Limits.{mostTasks}
-use Rattle.task.specs.Tasks.{blank}
+use Rattle.task.specs.Arrays.{blank}
 use Rattle.task.proofs.list.Tasks.sized.Statement.{statement}
 use Rattle.task.proofs.list.Tasks.sized.Tie as tie
 

@@ -6,7 +6,7 @@ use native.Mathlib.Omega.{arith}
 use borrow.Author.Needs.{needs}
 use Rattle.task.specs.declared.Task.{Task}
 use Rattle.task.specs.declared.list.Tasks.{Tasks}
-use Rattle.task.specs.Tasks.{stored}
+use Rattle.task.specs.Arrays.{stored}
 use Rattle.task.proofs.list.Tasks.with.Statement.{statement}
 use Rattle.task.proofs.list.Tasks.with.Tie as tie
 
