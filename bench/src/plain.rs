@@ -123,8 +123,10 @@ impl Job {
     }
 }
 
-/// Fills both tables and counts, for a list that is neither refused nor overloaded.
-type Walk = fn(&[Task], Policy, Frame, &mut [u8], &mut [u8]) -> Answer;
+/// Misses, releases and the choice at an instant: the task that misses, or the one that is served.
+trait Choose: Fn(&mut [Job], &[Task], Policy, u64) -> Result<Option<usize>, usize> {}
+
+impl<F: Fn(&mut [Job], &[Task], Policy, u64) -> Result<Option<usize>, usize>> Choose for F {}
 
 /// At each instant a pass for the misses, one for the releases and one for the choice.
 #[inline(never)]
@@ -135,20 +137,20 @@ pub fn plain_passes(
     startup: &mut [u8],
     cycle: &mut [u8],
 ) -> Answer {
-    check(walk_passes, tasks, policy, startup, cycle)
+    check(by_passes, tasks, policy, startup, cycle)
 }
 
 /// At each instant one loop over the tasks, for all three.
 #[inline(never)]
 #[unsafe(no_mangle)]
 pub fn plain_loop(tasks: &[Task], policy: Policy, startup: &mut [u8], cycle: &mut [u8]) -> Answer {
-    check(walk_loop, tasks, policy, startup, cycle)
+    check(by_loop, tasks, policy, startup, cycle)
 }
 
 /// Checks the list, then walks the schedule.
 #[inline(always)]
 fn check(
-    walk: Walk,
+    choose: impl Choose,
     tasks: &[Task],
     policy: Policy,
     startup: &mut [u8],
@@ -170,7 +172,7 @@ fn check(
             hyperperiod: frame.hyperperiod,
         };
     }
-    walk(tasks, policy, frame, startup, cycle)
+    walk(choose, tasks, policy, frame, startup, cycle)
 }
 
 fn frame_of(tasks: &[Task]) -> Result<Frame, Answer> {
@@ -211,7 +213,9 @@ fn gcd(a: u64, b: u64) -> u64 {
 }
 
 /// Walks all slots up to the one after the tables, which decides the last preemption.
-fn walk_passes(
+#[inline(always)]
+fn walk(
+    choose: impl Choose,
     tasks: &[Task],
     policy: Policy,
     frame: Frame,
@@ -222,13 +226,12 @@ fn walk_passes(
     let mut counts = Counts::default();
     let mut last_served = None;
     for instant in 0..=frame.end() {
-        if let Some(task) = jobs.iter().position(|job| job.misses_at(instant)) {
-            return Answer::Missed { task, instant };
-        }
         // Asked before the releases: a finished job's task may get a new one now.
         let unfinished = last_served.filter(|&number: &usize| jobs[number].is_ready());
-        release(&mut jobs, tasks, policy, instant);
-        let served = pick(&jobs);
+        let served = match choose(&mut jobs, tasks, policy, instant) {
+            Ok(served) => served,
+            Err(task) => return Answer::Missed { task, instant },
+        };
         if unfinished.is_some() && served != unfinished {
             counts.note_preemption(instant, &frame);
         }
@@ -239,6 +242,44 @@ fn walk_passes(
         last_served = served;
     }
     Answer::Feasible { frame, counts }
+}
+
+#[inline(always)]
+fn by_passes(
+    jobs: &mut [Job],
+    tasks: &[Task],
+    policy: Policy,
+    instant: u64,
+) -> Result<Option<usize>, usize> {
+    if let Some(task) = jobs.iter().position(|job| job.misses_at(instant)) {
+        return Err(task);
+    }
+    release(jobs, tasks, policy, instant);
+    Ok(pick(jobs))
+}
+
+#[inline(always)]
+fn by_loop(
+    jobs: &mut [Job],
+    tasks: &[Task],
+    policy: Policy,
+    instant: u64,
+) -> Result<Option<usize>, usize> {
+    let mut served = None;
+    let mut least = u64::MAX;
+    for (number, (job, task)) in jobs.iter_mut().zip(tasks).enumerate() {
+        if job.misses_at(instant) {
+            return Err(number);
+        }
+        if job.next_release == instant {
+            job.release(policy, number, task, instant);
+        }
+        if job.is_ready() && job.key < least {
+            served = Some(number);
+            least = job.key;
+        }
+    }
+    Ok(served)
 }
 
 fn release(jobs: &mut [Job], tasks: &[Task], policy: Policy, instant: u64) {
@@ -256,46 +297,6 @@ fn pick(jobs: &[Job]) -> Option<usize> {
         .filter(|(_, job)| job.is_ready())
         .min_by_key(|(_, job)| job.key)
         .map(|(number, _)| number)
-}
-
-/// The same, with one loop over the tasks at each instant.
-fn walk_loop(
-    tasks: &[Task],
-    policy: Policy,
-    frame: Frame,
-    startup: &mut [u8],
-    cycle: &mut [u8],
-) -> Answer {
-    let mut jobs: Vec<Job> = tasks.iter().map(Job::before_first).collect();
-    let mut counts = Counts::default();
-    let mut last_served = None;
-    for instant in 0..=frame.end() {
-        let unfinished = last_served.filter(|&number: &usize| jobs[number].is_ready());
-        let mut served = None;
-        let mut least = u64::MAX;
-        for (number, (job, task)) in jobs.iter_mut().zip(tasks).enumerate() {
-            if job.misses_at(instant) {
-                let task = number;
-                return Answer::Missed { task, instant };
-            }
-            if job.next_release == instant {
-                job.release(policy, number, task, instant);
-            }
-            if job.is_ready() && job.key < least {
-                served = Some(number);
-                least = job.key;
-            }
-        }
-        if unfinished.is_some() && served != unfinished {
-            counts.note_preemption(instant, &frame);
-        }
-        if let Some(number) = served {
-            jobs[number].left -= 1;
-        }
-        counts.note_slot(instant, served, &frame, startup, cycle);
-        last_served = served;
-    }
-    Answer::Feasible { frame, counts }
 }
 
 impl Counts {

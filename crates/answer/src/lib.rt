@@ -1,4 +1,7 @@
 // What comes back from a check. Document 01, "What comes back".
+ghost use mathlib.Core.Path.{_≡_};
+ghost use Rattle.schedule.specs.Job.{idle};
+ghost use Rattle.answer.specs.Tables.{byteOf};
 use refusal::Refusal;
 
 // A table entry of an idle slot; any other entry is a task number.
@@ -21,3 +24,8 @@ pub enum Answer {
     Missed { task: usize, at: usize },
     Feasible(Plan),
 }
+
+// Ties the mark of an idle slot to the number of specs/.
+fn mark()
+    ensures { λ _. do ⌜ (← ⟦IDLE⟧ .entry) ≡ byteOf idle ⌝ }
+{}
