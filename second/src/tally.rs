@@ -8,7 +8,7 @@ use crate::verdict::Verdict;
 use std::collections::{HashMap, HashSet};
 
 /// Each line of the table, and whether a run without it fails.
-const LINES: [(&str, bool); 44] = [
+const LINES: [(&str, bool); 46] = [
     ("refused 1", true),
     ("refused 1, no task", true),
     ("refused 1, 17 tasks", true),
@@ -19,7 +19,9 @@ const LINES: [(&str, bool); 44] = [
     ("refused 5", true),
     ("refused 6", true),
     ("refused 7", true),
+    ("refused 7, startup one short", true),
     ("refused 8", true),
+    ("refused 8, cycle one short", true),
     ("refused, and another refusal applies", true),
     ("code 4, policy above 3 alone", true),
     ("code 4, words not a multiple of four alone", true),
@@ -119,6 +121,15 @@ impl Tally {
             17 => self.note("refused 1, 17 tasks"),
             1_000 => self.note("refused 1, 1,000 tasks"),
             _ => {}
+        }
+        // Past refusal 6 the list has its M + H and H.
+        if number == 7 {
+            let short = case.startup_len as u64 + 1 == needed(case).0;
+            self.note_if(short, "refused 7, startup one short");
+        }
+        if number == 8 {
+            let short = case.cycle_len as u64 + 1 == needed(case).1;
+            self.note_if(short, "refused 8, cycle one short");
         }
         let several = verdict.refusals > 1;
         self.note_if(several, "refused, and another refusal applies");
