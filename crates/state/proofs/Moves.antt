@@ -164,7 +164,7 @@ module _ (p : Policy) {l : List Task} {H : ℕ} (w : Sound l H) where
   -- Releases happen: nothing is owed any more to a task whose next job is released, or that job's forerunner would have missed.
   module _ (within : (i : ℕ) → i < length l → task l i .deadline ≤ task l i .period) (t : ℕ) (owed next dues keys : List ℕ)
       (x : KeptBefore p l t owed next dues keys) (clear : Clear p l t) where
-    pub nothing-owed : (i : ℕ) → i < length l → at next i ≡ t → at owed i ≡ 0
+    nothing-owed : (i : ℕ) → i < length l → at next i ≡ t → at owed i ≡ 0
     nothing-owed i b e = elim (decLt 0 (at owed i)) [
       | no h ↦ omega arith
       | yes h ↦
