@@ -120,20 +120,7 @@ pub fn check_words(
     cycle: &mut [u8],
     row: &mut [u64],
 ) -> u64 {
-    // A slice is never null, its memory is initialised, and the three that are written are borrowed by nobody else.
-    unsafe {
-        sholakpite_check(
-            policy,
-            list.as_ptr(),
-            list.len(),
-            startup.as_mut_ptr(),
-            startup.len(),
-            cycle.as_mut_ptr(),
-            cycle.len(),
-            row.as_mut_ptr(),
-            row.len(),
-        )
-    }
+    call(sholakpite_check, policy, list, startup, cycle, row)
 }
 
 /// As C calls it with a list of task structs.
@@ -144,9 +131,34 @@ pub fn check_tasks(
     cycle: &mut [u8],
     row: &mut [u64],
 ) -> u64 {
-    // As above; a `Task` is four 64-bit words in this order, as it is behind the function.
+    call(sholakpite_check_tasks, policy, list, startup, cycle, row)
+}
+
+/// Either of the two functions above, over its list.
+type Entry<T> = unsafe extern "C" fn(
+    u64,
+    *const T,
+    usize,
+    *mut u8,
+    usize,
+    *mut u8,
+    usize,
+    *mut u64,
+    usize,
+) -> u64;
+
+fn call<T>(
+    entry: Entry<T>,
+    policy: u64,
+    list: &[T],
+    startup: &mut [u8],
+    cycle: &mut [u8],
+    row: &mut [u64],
+) -> u64 {
+    // A slice is never null, its memory is initialised, and the three that are written are borrowed by nobody else. A
+    // `Task` is four 64-bit words in the paper's order, as it is behind the function.
     unsafe {
-        sholakpite_check_tasks(
+        entry(
             policy,
             list.as_ptr(),
             list.len(),

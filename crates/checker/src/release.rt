@@ -8,7 +8,7 @@ use schedule::Policy;
 use task::Task;
 
 // The least task with a job due at t to which slots are owed; n where there is none, and then all releases at t have happened.
-// A task's miss is noted before its release, which would overwrite the late job. One pass for both: it is the loop that costs most.
+// A task's miss is noted before its release, which would overwrite the late job. One pass for both is quicker than two.
 pub(crate) fn arrive(
     policy: Policy,
     n: usize,

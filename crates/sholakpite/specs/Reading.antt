@@ -4,6 +4,8 @@ use Prim.Native.Nat.{ℕ, _+_, _*_}
 use lib.ListN.{getD}
 use Rattle.task.specs.declared.Task.{Task}
 use Rattle.task.specs.Tasks.{taskOf}
+use Rattle.sholakpite.specs.Words.{taskWords}
 
 abbrev pub taskAt : List ℕ → ℕ → Task
-taskAt words i = taskOf (getD words (4 * i) 0) (getD words (4 * i + 1) 0) (getD words (4 * i + 2) 0) (getD words (4 * i + 3) 0)
+taskAt words i =
+    taskOf (getD words (taskWords * i) 0) (getD words (taskWords * i + 1) 0) (getD words (taskWords * i + 2) 0) (getD words (taskWords * i + 3) 0)

@@ -57,9 +57,13 @@ rowLength = 8
 abbrev pub misread : ℕ → List ℕ → Bool
 misread policy words = ltb lastPolicy policy || ltb (length words) rowLength
 
+-- O, C, D and T
+abbrev pub taskWords : ℕ
+taskWords = 4
+
 -- the words of a list are not a multiple of four
 abbrev pub ragged : List ℕ → Bool
-ragged list = not (eqb (length list % 4) 0)
+ragged list = not (eqb (length list % taskWords) 0)
 
 -- `startup`, `cycle` and `words` are the buffers as they were lent, s, c and w as they are left
 module _ (policy : ℕ) (l : List Task) (startup cycle words : List ℕ) where

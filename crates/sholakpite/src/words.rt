@@ -3,7 +3,7 @@ ghost use mathlib.Core.Path.{_≡_};
 ghost use Prim.Native.Nat.{_+_, _*_, _<_};
 ghost use lib.ListN.{length};
 ghost use Rattle.task.specs.Arrays.{arrayOf};
-ghost use Rattle.sholakpite.specs.Words.{policyOf, tasksOf};
+ghost use Rattle.sholakpite.specs.Words.{policyOf, taskWords, tasksOf};
 ghost use Rattle.sholakpite.specs.Reading.{taskAt};
 use schedule::Policy;
 use task::Task;
@@ -39,7 +39,7 @@ pub(crate) fn tasks_of(list: &[u64]) -> Tasks
 }
 
 fn task_at(list: &[u64], i: usize) -> Task
-    requires { ⌜ 4 * i + 3 < length (now list) ⌝ }
+    requires { ⌜ taskWords * i + 3 < length (now list) ⌝ }
     ensures { λ r. ⌜ r ≡ taskAt (now (list .entry)) i ⌝ }
 {
     let at = EACH * i;
