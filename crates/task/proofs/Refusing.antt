@@ -34,7 +34,7 @@ both : (f g : Finding) → (f then g) ≡ sound → (f ≡ sound) × (g ≡ soun
 both sound g e = (refl, e)
 both (refused n i) g e = absurd (not-sound e)
 
-neither : (a b : Bool) → (a || b) ≡ false → (a ≡ false) × (b ≡ false)
+pub neither : (a b : Bool) → (a || b) ≡ false → (a ≡ false) × (b ≡ false)
 neither true b e = (e, absurd (true≢false e))
 neither false b e = (refl, e)
 

@@ -1,0 +1,55 @@
+// Answers a stream of inputs, for comparing many with another program. A frame is two bytes, the input's length, low byte
+// first, and room for the input; an answer is four bytes, its length, low byte first, and the output.
+ghost use Prim.Native.Nat.{_<_};
+use decimal::Written;
+use libc::STDIN_FILENO;
+use libc::STDOUT_FILENO;
+
+// Inputs that are just too long are among those to compare.
+const ROOM: usize = text::MOST_BYTES + 2;
+
+const FRAME: usize = ROOM + 2;
+
+fn wide(b: u8) -> usize
+    ensures { λ r. ⌜ r < 256 ⌝ }
+{
+    b as usize
+}
+
+fn low(n: usize) -> u8 {
+    (n % 256) as u8
+}
+
+fn say(input: &[u8]) -> bool {
+    let mut out = [0u8; output::LONGEST_OUTPUT];
+    let Written::Length(n) = output::answer(input, &mut out) else {
+        return false;
+    };
+    let head = [low(n), low(n / 256), low(n / 65536), 0];
+    io::write_all(STDOUT_FILENO, &head);
+    io::write_all(STDOUT_FILENO, &out[..n])
+}
+
+// Answers one frame, if there is a whole one.
+fn one() -> bool {
+    let mut frame = [0u8; FRAME];
+    if io::read_full(STDIN_FILENO, &mut frame) < FRAME {
+        return false;
+    }
+    let end = wide(frame[0]) + 256 * wide(frame[1]) + 2;
+    if FRAME < end {
+        return false;
+    }
+    say(&frame[2..end])
+}
+
+// The count lets the loop be proved to end; no run uses it up.
+fn main() {
+    let mut left = u64::MAX;
+    while 0 < left {
+        if !one() {
+            return;
+        }
+        left -= 1;
+    }
+}

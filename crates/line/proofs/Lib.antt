@@ -1,0 +1,4 @@
+pub mod Places
+pub mod Digits
+pub mod Fields
+pub mod Parts

@@ -1,0 +1,3 @@
+pub mod Lines
+pub mod Kinds
+pub mod Places

@@ -1,0 +1,9 @@
+pub mod Pinned
+pub mod Refusing
+pub mod Room
+pub mod Some
+pub mod Entries
+pub mod Counts
+pub mod Plans
+pub mod Longest
+pub mod Told

@@ -1,0 +1,48 @@
+-- The buffers of a report have room for every list: none is refused for them, and each plan fits.
+use mathlib.Core.Path.{_≡_, subst, ap}
+use mathlib.Core.List.{List}
+use Prim.Native.Nat.{ℕ, _+_, _≤_}
+use native.Mathlib.Omega.{arith}
+use lib.ListN.{length, length-replicate}
+use Rattle.task.specs.declared.Task.{Task}
+use Rattle.task.proofs.Refusing.{Passed, passed}
+use Rattle.schedule.specs.declared.Policy.{Policy}
+use Rattle.schedule.specs.Job.{idle}
+use Rattle.answer.specs.declared.Plan.{Plan}
+use Rattle.answer.specs.declared.Answer.{Answer}
+use Rattle.answer.specs.Answers.{row, Row, refused, feasible}
+use Rattle.answer.specs.Tables.{byteOf}
+use Rattle.answer.specs.Promise.{Permitted, Promised}
+use Rattle.output.specs.Output.{longestStartup, longestCycle, clear}
+use Rattle.output.proofs.Refusing.{Limit, refused-limit}
+
+-- said of any n, so that no buffer is laid out here
+pub clear-length : (n : ℕ) → length (clear n) ≡ n
+clear-length n = length-replicate n (byteOf idle)
+
+module _ (p : Policy) (l : List Task) (startup cycle : List ℕ) (n : length startup ≡ longestStartup) (m : length cycle ≡ longestCycle) where
+  pub permitted-limit : (number i : ℕ) (s c : List ℕ) → Permitted p l startup cycle (refused number i) s c → Limit number i
+  permitted-limit number i s c x = refused-limit l (length startup) (length cycle) (omega arith) (omega arith) number i (x .first-refusal)
+
+  pub permitted-room : (q : Plan) (s c : List ℕ) → Permitted p l startup cycle (feasible q) s c →
+      (q .latest + q .hyperperiod ≤ longestStartup) × (q .hyperperiod ≤ longestCycle)
+  permitted-room q s c x =
+      let ok : Passed l (length startup) (length cycle) = passed l (length startup) (length cycle) (x .no-refusal) in
+      let M = ap (λ (q : Plan). q .latest) (x .is-plan) in
+      let H = ap (λ (q : Plan). q .hyperperiod) (x .is-plan) in
+      (omega (arith, M, H, ok .startup-fits), omega (arith, H, ok .cycle-fits))
+
+module _ (p : Policy) (l : List Task) (answer : Answer) (s c : List ℕ)
+    (x : Promised p l (clear longestStartup) (clear longestCycle) answer s c) where
+  permitted : (r : Row) → row answer ≡ r → Permitted p l (clear longestStartup) (clear longestCycle) r s c
+  permitted r e = subst (λ (r : Row). Permitted p l (clear longestStartup) (clear longestCycle) r s c) e (x .demand-2)
+
+  pub never-short : (n i : ℕ) → row answer ≡ refused n i → (n ≡ 7 → ⊥) × (n ≡ 8 → ⊥)
+  never-short n i e =
+      let y : Limit n i =
+      permitted-limit p l (clear longestStartup) (clear longestCycle) (clear-length longestStartup) (clear-length longestCycle) n i s c (permitted (refused n i) e) in
+      (λ e. omega arith, λ e. omega arith)
+
+  pub plan-room : (q : Plan) → row answer ≡ feasible q → (q .latest + q .hyperperiod ≤ longestStartup) × (q .hyperperiod ≤ longestCycle)
+  plan-room q e =
+      permitted-room p l (clear longestStartup) (clear longestCycle) (clear-length longestStartup) (clear-length longestCycle) q s c (permitted (feasible q) e)

@@ -1,0 +1,54 @@
+-- What is printed for an input. Request #101.
+use mathlib.Core.Path.{_≡_}
+use mathlib.Core.List.{List}
+use Prim.Native.Nat.{ℕ, _+_, _*_}
+use lib.ListN.{length, replicate}
+use Rattle.task.specs.declared.Task.{Task}
+use Rattle.task.specs.Limits.{latestOffset, longestHyperperiod}
+use Rattle.schedule.specs.declared.Policy.{Policy}
+use Rattle.schedule.specs.Job.{idle}
+use Rattle.answer.specs.declared.Answer.{Answer}
+use Rattle.answer.specs.Answers.{row}
+use Rattle.answer.specs.Tables.{byteOf}
+use Rattle.answer.specs.Promise.{Promised}
+use Rattle.decimal.specs.declared.Written.{Written}
+use Rattle.decimal.specs.Bytes.{bytes}
+use Rattle.decimal.specs.Laying.{Wrote}
+use Rattle.text.specs.Reading.{Reading, unread, listed}
+use Rattle.report.specs.Report.{one, report}
+
+-- M is at most the latest offset, and H at most the longest hyperperiod: buffers for every list
+abbrev pub longestStartup : ℕ
+longestStartup = latestOffset + longestHyperperiod
+
+abbrev pub longestCycle : ℕ
+longestCycle = longestHyperperiod
+
+abbrev pub clear : ℕ → List ℕ
+clear n = replicate n (byteOf idle)
+
+-- the report of what the checker promises for a policy and a list
+pub record Reported (p : Policy) (l : List Task) (output : List ℕ) : Type 0 where
+  pub answer : Answer
+  pub startup : List ℕ
+  pub cycle : List ℕ
+  pub promised : Promised p l (clear longestStartup) (clear longestCycle) answer startup cycle
+  pub is-report : output ≡ report (row answer) startup cycle
+
+-- a line that can't be read is said by its number
+abbrev pub Output : Reading → List ℕ → Type 0
+Output (unread n) output = output ≡ one (bytes "unread") n
+Output (listed p l) output = Reported p l output
+
+-- the output for a reading, into a lent buffer
+pub record Answered (reading : Reading) (buffer : List ℕ) (r : Written) (left : List ℕ) : Type 0 where
+  pub output : List ℕ
+  pub is-output : Output reading output
+  pub wrote : Wrote output buffer r left
+
+-- the longest output that there is: each line at its longest, with a task of two digits in every slot (`output-fits`)
+abbrev pub longestOutput : ℕ
+longestOutput =
+    length (bytes "feasible\nhyperperiod 16384\nload 16384\nidle 32768 16384\npreemptions 32768 16384\n")
+    + (length (bytes "first\n") + length (bytes " 15") * longestStartup)
+    + (length (bytes "again\n") + length (bytes " 15") * longestCycle)
