@@ -1,5 +1,6 @@
 // For callers in C and Rust: the checker over words, and over task structs. include/sholakpite.h says the same for C.
 mod row;
+mod texts;
 mod words;
 
 ghost use mathlib.Core.List.{List};
@@ -13,7 +14,7 @@ use task::Task;
 use task::list::Tasks;
 
 // The code of a call that is not understood; then nothing is written.
-const NOT_UNDERSTOOD: u64 = 4;
+pub(crate) const NOT_UNDERSTOOD: u64 = 4;
 
 // Checks a list of words, O C D T for each task, under a policy by number, and gives the answer's code; its values go into `row`.
 #[no_mangle]

@@ -17,7 +17,7 @@ use Rattle.line.specs.Lines.{largestNumber}
 use Rattle.line.specs.Kinds.{policyText}
 use Rattle.text.specs.Reading.{mostBytes}
 use Rattle.writer.specs.Writing.{taskText, tasksText, text, isLarge, anyLarge, unwritable}
-use Rattle.line.proofs.Parts.{neither}
+use Rattle.task.proofs.Refusing.{neither}
 use Rattle.writer.proofs.TextLines.{Small, small}
 
 -- 4 letters, 4 spaces, a newline and 4 numbers

@@ -18,7 +18,7 @@ use Rattle.line.specs.Lines.{parts}
 use Rattle.line.specs.Kinds.{policyText, firstOf, taskFields, lineOf}
 use Rattle.text.specs.Reading.{mostBytes, withTask, withPolicy, tasksOn, linesOf, reading, listed}
 use Rattle.writer.specs.Writing.{text, isLarge, anyLarge, unwritable}
-use Rattle.line.proofs.Parts.{neither}
+use Rattle.task.proofs.Refusing.{neither}
 use Rattle.writer.proofs.Numbers.{number-decimal}
 use Rattle.writer.proofs.Lengths.{text-length}
 use Rattle.writer.proofs.TextLines.{Small, small, lineText, taskLines, line-fields, text-lines}

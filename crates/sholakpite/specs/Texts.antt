@@ -1,0 +1,43 @@
+-- Texts for callers in C and Rust: an input's output, and the text of a list of words.
+use mathlib.Core.Path.{_≡_}
+use mathlib.Core.Bool.{Bool, true, false, _||_}
+use mathlib.Core.List.{List}
+use Prim.Native.Nat.{ℕ}
+use lib.Dec.{ltb}
+use Rattle.decimal.specs.declared.Written.{Written}
+use Rattle.decimal.specs.declared.Written.the-variants.{Length, Short}
+use Rattle.text.specs.Reading.{reading}
+use Rattle.writer.specs.declared.Saved.{Saved}
+use Rattle.writer.specs.Writing.{SavedAs, numberOf}
+use Rattle.output.specs.Output.{Answered}
+use Rattle.sholakpite.specs.Words.{policyOf, tasksOf, lastPolicy, ragged}
+
+-- the output's length, or 0 for a buffer that is shorter: no output is empty
+abbrev pub lengthOf : Written → ℕ
+lengthOf (Length n) = n
+lengthOf Short = 0
+
+-- `buffer` is as it was lent, `left` as it is left, n what is answered
+pub record AnsweredText (input buffer : List ℕ) (n : ℕ) (left : List ℕ) : Type 0 where
+  pub written : Written
+  pub answered : Answered (reading input) buffer written left
+  pub is-length : n ≡ lengthOf written
+
+module _ (policy : ℕ) (list buffer : List ℕ) where
+  -- 4: the policy is above 3, or the words are not a multiple of four
+  pub record NotUnderstood (n : ℕ) (left : List ℕ) : Type 0 where
+    pub is-code : n ≡ 4
+    pub kept : left ≡ buffer
+
+  pub record Understood (n : ℕ) (left : List ℕ) : Type 0 where
+    pub saved : Saved
+    pub saved-as : SavedAs (policyOf policy) (tasksOf list) buffer saved left
+    pub is-number : n ≡ numberOf saved
+
+  abbrev pub eitherText : Bool → ℕ → List ℕ → Type 0
+  eitherText true n left = NotUnderstood n left
+  eitherText false n left = Understood n left
+
+-- the text's length or 13, or 4 for a call that is not understood
+abbrev pub WrittenText : ℕ → List ℕ → List ℕ → ℕ → List ℕ → Type 0
+WrittenText policy list buffer = eitherText policy list buffer (ragged list || ltb lastPolicy policy)
