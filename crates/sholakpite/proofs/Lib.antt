@@ -1,3 +1,4 @@
 pub mod Reading
 pub mod Rows
 pub mod Calls
+pub mod TextCalls

@@ -5,3 +5,4 @@ pub mod RoundTrip
 pub mod Canonical
 pub mod Laying
 pub mod Saving
+pub mod Pinned

@@ -1,0 +1,44 @@
+-- Calls over texts: what is not understood, what is, and that what is promised leaves one outcome.
+use mathlib.Core.Path.{_≡_, refl, sym, ap, _∙_}
+use mathlib.Core.Bool.{Bool, true, false, _||_, true≢false}
+use mathlib.Core.List.{List}
+use Prim.Native.Nat.{ℕ}
+use lib.Dec.{ltb}
+use Rattle.schedule.specs.declared.Policy.{Policy}
+use Rattle.text.specs.Reading.{reading}
+use Rattle.writer.specs.declared.Saved.{Saved}
+use Rattle.writer.specs.Writing.{SavedAs, numberOf}
+use Rattle.writer.proofs.Pinned.{saved-pinned}
+use Rattle.output.proofs.Pinned.{answered-pinned}
+use Rattle.sholakpite.specs.Words.{policyOf, tasksOf, lastPolicy, ragged}
+use Rattle.sholakpite.specs.Texts.{lengthOf, AnsweredText, eitherText, WrittenText}
+
+-- `sholakpite_answer` has one outcome
+pub answer-text-pinned : (input buffer : List ℕ) (n n′ : ℕ) (left left′ : List ℕ) →
+    AnsweredText input buffer n left → AnsweredText input buffer n′ left′ → (n ≡ n′) × (left ≡ left′)
+answer-text-pinned input buffer n n′ left left′ x y =
+    let e = answered-pinned (reading input) buffer (x .written) (y .written) left left′ (x .answered) (y .answered) in
+    (x .is-length ∙ ap lengthOf (e .0) ∙ sym (y .is-length), e .1)
+
+module _ (policy : ℕ) (list buffer : List ℕ) where
+  pub text-not-understood : (b : Bool) → b ≡ true → eitherText policy list buffer b 4 buffer
+  text-not-understood true e = record { is-code = refl; kept = refl }
+  text-not-understood false e = absurd (true≢false (sym e))
+
+  pub text-understood : (b : Bool) → b ≡ false → (p : Policy) (s : Saved) (n : ℕ) (left : List ℕ) → p ≡ policyOf policy →
+      SavedAs p (tasksOf list) buffer s left → n ≡ numberOf s → eitherText policy list buffer b n left
+  text-understood true e p s n left is-policy x is-number = absurd (true≢false e)
+  text-understood false e p s n left is-policy x is-number =
+      let y : SavedAs (policyOf policy) (tasksOf list) buffer s left = rw is-policy at x in
+      record { saved = s; saved-as = y; is-number = is-number }
+
+  -- `sholakpite_write` has one outcome
+  pub write-text-pinned : (n n′ : ℕ) (left left′ : List ℕ) → WrittenText policy list buffer n left → WrittenText policy list buffer n′ left′ →
+      (n ≡ n′) × (left ≡ left′)
+  write-text-pinned n n′ left left′ = go (ragged list || ltb lastPolicy policy)
+    where
+      go : (b : Bool) → eitherText policy list buffer b n left → eitherText policy list buffer b n′ left′ → (n ≡ n′) × (left ≡ left′)
+      go true x y = (x .is-code ∙ sym (y .is-code), x .kept ∙ sym (y .kept))
+      go false x y =
+          let e = saved-pinned (policyOf policy) (tasksOf list) buffer (x .saved) (y .saved) left left′ (x .saved-as) (y .saved-as) in
+          (x .is-number ∙ ap numberOf (e .0) ∙ sym (y .is-number), e .1)
