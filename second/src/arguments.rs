@@ -2,14 +2,18 @@
 
 use std::str::FromStr;
 
-pub const USAGE: &str = "second [--seed N] [--lists N] [--say]\n\
-    (a run in which an answer never came fails, so fewer than some 20,000 lists may)\n\
+pub const USAGE: &str = "second [--seed N] [--lists N] [--texts N] [--say]\n\
+    (a run in which an answer never came fails, so fewer than some 20,000 lists or texts may; 0 leaves them out)\n\
+    second --answer < TEXT\n\
     second --try \"POLICY O C D T O C D T ...\" [--startup N] [--cycle N] [--row N]";
 
 pub struct Arguments {
     pub seed: u64,
     pub lists: u64,
-    /// Print every list before it is handed over, to find one that ends the program.
+    pub texts: u64,
+    /// Print our own output for standard input, and do nothing else.
+    pub answer: bool,
+    /// Print every list and text before it is handed over, to find one that ends the program.
     pub say: bool,
     pub tried: Option<Vec<u64>>,
     pub startup_len: Option<usize>,
@@ -21,6 +25,8 @@ pub fn read(mut words: impl Iterator<Item = String>) -> Result<Arguments, String
     let mut arguments = Arguments {
         seed: 20_260_101,
         lists: 100_000,
+        texts: 20_000,
+        answer: false,
         say: false,
         tried: None,
         startup_len: None,
@@ -28,14 +34,16 @@ pub fn read(mut words: impl Iterator<Item = String>) -> Result<Arguments, String
         row_len: None,
     };
     while let Some(name) = words.next() {
-        if name == "--say" {
-            arguments.say = true;
+        if name == "--say" || name == "--answer" {
+            arguments.say |= name == "--say";
+            arguments.answer |= name == "--answer";
             continue;
         }
         let value = words.next().ok_or(format!("{name} needs a value"))?;
         match name.as_str() {
             "--seed" => arguments.seed = number(&value)?,
             "--lists" => arguments.lists = number(&value)?,
+            "--texts" => arguments.texts = number(&value)?,
             "--try" => {
                 let list: Result<_, _> = value.split_whitespace().map(number).collect();
                 arguments.tried = Some(list?);

@@ -113,7 +113,12 @@ pub fn differences(walk: &Outcome, library: &Outcome) -> Vec<String> {
     places.into_iter().flatten().collect()
 }
 
-fn place<W: Copy + PartialEq + Display>(name: &str, a: &Lent<W>, b: &Lent<W>) -> Option<String> {
+/// The first place of a buffer that differs, outside the lent part too.
+pub fn place<W: Copy + PartialEq + Display>(
+    name: &str,
+    a: &Lent<W>,
+    b: &Lent<W>,
+) -> Option<String> {
     let (entry, of_walk, of_library) = a.first_difference(b)?;
     let inside = (0..a.len as i64).contains(&entry);
     let outside = if inside {

@@ -14,11 +14,13 @@ mod readoff;
 mod single;
 mod table;
 mod tally;
+mod text;
 mod verdict;
 mod walk;
 
 use arguments::Arguments;
 use random::Random;
+use std::io::{self, Read, Write};
 use std::process::ExitCode;
 use std::time::Instant;
 use tally::Tally;
@@ -33,6 +35,9 @@ fn main() -> ExitCode {
             return ExitCode::from(2);
         }
     };
+    if arguments.answer {
+        return answer();
+    }
     let agreed = match &arguments.tried {
         Some(words) => single::try_one(words, &arguments),
         None => run_all(&arguments),
@@ -44,10 +49,44 @@ fn main() -> ExitCode {
     }
 }
 
-/// The paper's table first, then the random lists, then the counts.
+/// Our own output for the text on standard input, and nothing else.
+fn answer() -> ExitCode {
+    let mut input = Vec::new();
+    let answered = io::stdin()
+        .read_to_end(&mut input)
+        .and_then(|_| io::stdout().write_all(&text::report::output(&input).bytes));
+    match answered {
+        Ok(()) => ExitCode::SUCCESS,
+        Err(why) => {
+            eprintln!("{why}");
+            ExitCode::FAILURE
+        }
+    }
+}
+
+/// The paper's table first, then the random lists, then the random texts.
 fn run_all(arguments: &Arguments) -> bool {
-    let held = hold_table(arguments.seed);
+    let mut agreed = hold_table(arguments.seed);
+    // What is not asked for can't be missing.
+    if arguments.lists > 0 {
+        agreed &= timed(|| run_lists(arguments));
+    }
+    if arguments.texts > 0 {
+        agreed &= timed(|| text::run(arguments));
+    }
+    println!("{}", if agreed { "all agree" } else { "FAILED" });
+    agreed
+}
+
+fn timed(run: impl FnOnce() -> bool) -> bool {
     let began = Instant::now();
+    let agreed = run();
+    println!("{:.1} seconds", began.elapsed().as_secs_f64());
+    agreed
+}
+
+/// Random lists and their counts; true when all agree and nothing is missing.
+fn run_lists(arguments: &Arguments) -> bool {
     let mut tally = Tally::default();
     let differences = compare_lists(arguments, &mut tally);
     println!("seed {}, {} lists:", arguments.seed, arguments.lists);
@@ -59,10 +98,7 @@ fn run_all(arguments: &Arguments) -> bool {
     if differences > 0 {
         println!("FAILED: {differences} lists differ");
     }
-    println!("{:.1} seconds", began.elapsed().as_secs_f64());
-    let agreed = held && differences == 0 && never_came.is_empty();
-    println!("{}", if agreed { "all agree" } else { "FAILED" });
-    agreed
+    differences == 0 && never_came.is_empty()
 }
 
 fn hold_table(seed: u64) -> bool {
