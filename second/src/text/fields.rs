@@ -6,7 +6,7 @@ use crate::random::Random;
 
 /// Each damage, by its name. The first leaves a text that is read; none of the others does.
 #[rustfmt::skip]
-pub const SPOILS: [(&str, Spoil); 25] = [
+pub const SPOILS: [(&str, Spoil); 27] = [
     ("a number of 999999", |r, text| number(r, text, |_, n| *n = "999999".into())),
     ("a number of 1000000", |r, text| number(r, text, |_, n| *n = "1000000".into())),
     ("a number of seven digits", |r, text| number(r, text, seven_digits)),
@@ -27,6 +27,8 @@ pub const SPOILS: [(&str, Spoil); 25] = [
     ("a trailing space", |r, text| beside(r, text, |line| line.len() - 1, b' ')),
     ("a carriage return", |r, text| beside(r, text, |line| line.len() - 1, b'\r')),
     ("a carriage return in every line", |_, text| carriage_returns(text)),
+    ("a line that begins with a byte of 0", |r, text| beside(r, text, |_| 0, 0)),
+    ("a high bit", |r, text| high_bit(r, text)),
     ("a blank line", |r, text| insert(r, text, 0, "\n")),
     ("a second policy line", second_policy),
     ("a policy in upper case", |_, text| upper_case(text)),
@@ -108,6 +110,11 @@ fn beside(random: &mut Random, text: &mut Vec<u8>, place: fn(&[u8]) -> usize, by
     let place = place(&lines[at]);
     lines[at].insert(place, byte);
     *text = lines.concat();
+}
+
+fn high_bit(random: &mut Random, text: &mut [u8]) {
+    let at = random.index(text.len());
+    text[at] |= 1 << 7;
 }
 
 fn carriage_returns(text: &mut Vec<u8>) {

@@ -3,6 +3,8 @@
 mod bytes;
 mod compare;
 mod fields;
+#[cfg(test)]
+mod files;
 mod inputs;
 mod listed;
 mod pairs;

@@ -17,7 +17,7 @@ pub struct Told {
     pub tasks: Vec<Task>,
 }
 
-/// Reads a text; otherwise the number of the first line that can't be read, or 0 where there is too much of it.
+/// Reads a text; otherwise the number of the first line that can't be read, or 0 where it is too long.
 pub fn read(text: &[u8]) -> Result<Told, u64> {
     if text.len() > LONGEST_INPUT {
         return Err(0);
