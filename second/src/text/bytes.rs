@@ -1,6 +1,5 @@
 //! A text damaged without a look at what it says: its bytes, its lines, its end.
 
-use crate::lent::byte;
 use crate::random::Random;
 
 pub type Spoil = fn(&mut Random, &mut Vec<u8>);
@@ -27,7 +26,7 @@ const TELLING: &[u8] = b"0123456789 \n\r\t\0-+.,_xXeEpPtTlrdmf\x0b\x0c\x1a\x85\x
 /// A byte to put into a text.
 fn telling(random: &mut Random) -> u8 {
     if random.once_in(4) {
-        byte(random)
+        random.byte()
     } else {
         random.pick(TELLING)
     }

@@ -1,7 +1,6 @@
 //! Texts of every kind to hand over: good ones, damaged ones, long ones and noise.
 
 use super::{bytes, fields, listed, sizes};
-use crate::lent::byte;
 use crate::random::Random;
 
 /// A text, and the name of how it was made.
@@ -36,8 +35,8 @@ pub fn any(random: &mut Random) -> Input {
     Input { bytes, made }
 }
 
-/// Every name that an input may have.
-pub fn names() -> Vec<String> {
+/// Every name that an input of at most this many bytes may have.
+pub fn names(longest: usize) -> Vec<String> {
     let damages = bytes::SPOILS.iter().chain(&fields::SPOILS);
     let plain = [
         VALID,
@@ -53,9 +52,11 @@ pub fn names() -> Vec<String> {
         .chain(plain.map(String::from))
         .collect();
     for (flaw, _) in sizes::FLAWS {
-        let lengths = sizes::LENGTHS.map(sizes::length_name);
+        let fits = |&length: &Option<usize>| sizes::shortest(length) <= longest;
+        let lengths = sizes::LENGTHS.into_iter().filter(fits);
+        let lengths = lengths.map(sizes::length_name);
         let counts = sizes::COUNTS.map(|(name, ..)| name.to_string());
-        let sizes = lengths.into_iter().chain(counts);
+        let sizes = lengths.chain(counts);
         names.extend(sizes.map(|size| format!("{size}, {flaw}")));
     }
     names
@@ -104,7 +105,7 @@ fn noise(random: &mut Random) -> (Vec<u8>, String) {
     match random.below(5) {
         0 => (Vec::new(), EMPTY.to_string()),
         1 => {
-            let bytes = (0..count).map(|_| byte(random)).collect();
+            let bytes = (0..count).map(|_| random.byte()).collect();
             (bytes, RANDOM_BYTES.to_string())
         }
         _ => {

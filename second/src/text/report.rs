@@ -12,6 +12,16 @@ pub struct Output {
     pub read: Result<(Told, Verdict), u64>,
 }
 
+impl Output {
+    /// Claims of the paper that our own walk contradicts.
+    pub fn broken(&self) -> Vec<String> {
+        match &self.read {
+            Ok((_, verdict)) => verdict.broken.clone(),
+            Err(_) => Vec::new(),
+        }
+    }
+}
+
 pub fn output(input: &[u8]) -> Output {
     let read = reader::read(input).map(|told| {
         // Tables are printed whole, so their buffers always have the lengths that they need.

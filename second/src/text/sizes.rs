@@ -11,7 +11,7 @@ const LONGEST: usize = "task 999999 999999 999999 999999\n".len();
 /// Lengths of a text at its limit; `None` is a length far above it.
 pub const LENGTHS: [Option<usize>; 5] = [Some(4_095), Some(4_096), Some(4_097), Some(4_098), None];
 
-/// Lengths far above the limit; some look right once they are cut to 16 bits.
+/// Lengths far above the limit, the shortest first; some look right once they are cut to 16 bits.
 const FAR: [usize; 5] = [5_000, 8_192, 65_536, 65_600, 69_632];
 
 /// What is wrong with a text, besides its length.
@@ -42,6 +42,11 @@ pub fn length_name(length: Option<usize>) -> String {
         Some(length) => format!("{length} bytes"),
         None => "far too many bytes".to_string(),
     }
+}
+
+/// The shortest text of this length.
+pub fn shortest(length: Option<usize>) -> usize {
+    length.unwrap_or(FAR[0])
 }
 
 /// A text of this length, to the byte.

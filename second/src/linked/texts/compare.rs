@@ -1,16 +1,13 @@
 //! The library's output for a text, in buffers of several lengths, compared with our own.
 
-use super::report::Output;
-use crate::compare::place;
-use crate::lent::{byte, lend, Lent};
+use crate::linked::compare::place;
+use crate::linked::lent::{lend, Lent};
 use crate::random::Random;
+use crate::text::report::Output;
 
 /// What differs for this text, in any of the buffers.
 pub fn compare(input: &[u8], output: &Output, random: &mut Random) -> Vec<String> {
-    let mut found = match &output.read {
-        Ok((_, verdict)) => verdict.broken.clone(),
-        Err(_) => Vec::new(),
-    };
+    let mut found = output.broken();
     for room in rooms(random, output.bytes.len()) {
         let lines = compare_in(input, &output.bytes, room, random);
         found.extend(lines.iter().map(|line| format!("room {room}: {line}")));
@@ -31,16 +28,16 @@ pub fn rooms(random: &mut Random, needed: usize) -> [usize; 5] {
 }
 
 fn compare_in(input: &[u8], output: &[u8], room: usize, random: &mut Random) -> Vec<String> {
-    let lent_input = Lent::holding(random, input, byte);
+    let lent_input = Lent::holding(random, input, Random::byte);
     let input_before = lent_input.clone();
-    let mut out = lend(random, room, byte);
+    let mut out = lend(random, room, Random::byte);
     let (expected, out_expected) = by_second(output, &out);
     let length = sholakpite::answer(lent_input.part(), out.part_mut());
     let lengths = format!("lengths: second {expected:?}, library {length:?}");
     let lines = [
         Some(lengths).filter(|_| expected != length),
-        place("output byte", &out_expected, &out),
-        place("input byte", &input_before, &lent_input),
+        place("second", "output byte", &out_expected, &out),
+        place("second", "input byte", &input_before, &lent_input),
     ];
     lines.into_iter().flatten().collect()
 }

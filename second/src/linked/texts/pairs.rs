@@ -1,11 +1,10 @@
 //! Random policies and lists to write: any words, any count, any policy.
 
-use super::listed;
-use super::reader::{MOST_NUMBER, POLICIES};
-use super::writer;
 use crate::case::words_of;
 use crate::paper::{self, MOST_TASKS, TASK_WORDS};
 use crate::random::Random;
+use crate::text::reader::{MOST_NUMBER, POLICIES};
+use crate::text::{listed, writer};
 
 pub struct Pair {
     pub policy: u64,

@@ -2,21 +2,21 @@
 
 use super::compare::{compare, rooms};
 use super::pairs::Pair;
-use super::reader::{self, Told};
-use super::report;
 use super::tally::Tally;
 use super::writer;
-use crate::compare::place;
-use crate::lent::{byte, lend, Lent};
+use crate::linked::compare::place;
+use crate::linked::lent::{lend, Lent};
 use crate::paper;
 use crate::random::Random;
+use crate::text::reader::{self, Told};
+use crate::text::report;
 
 /// What differs for this pair, in any of the buffers.
 pub fn compare_pair(pair: &Pair, random: &mut Random, tally: &mut Tally) -> Vec<String> {
     let mut found = Vec::new();
     let text = pair.text();
     for room in rooms(random, text.len()) {
-        tally.add_pair(pair, text.len(), room);
+        tally.add(pair, text.len(), room);
         let (lines, written) = compare_in(pair, room, random);
         found.extend(lines.iter().map(|line| format!("room {room}: {line}")));
         if room == text.len() {
@@ -34,7 +34,7 @@ pub fn compare_pair(pair: &Pair, random: &mut Random, tally: &mut Tally) -> Vec<
 fn compare_in(pair: &Pair, room: usize, random: &mut Random) -> (Vec<String>, Option<Vec<u8>>) {
     let list = Lent::holding(random, &pair.list, Random::next);
     let list_before = list.clone();
-    let mut out = lend(random, room, byte);
+    let mut out = lend(random, room, Random::byte);
     let mut out_expected = out.clone();
     let expected = match writer::write(pair.policy, &pair.list, room) {
         Ok(text) => {
@@ -47,8 +47,8 @@ fn compare_in(pair: &Pair, room: usize, random: &mut Random) -> (Vec<String>, Op
     let answers = format!("answers: second {expected}, library {answered}");
     let lines = [
         Some(answers).filter(|_| expected != answered),
-        place("text byte", &out_expected, &out),
-        place("list word", &list_before, &list),
+        place("second", "text byte", &out_expected, &out),
+        place("second", "list word", &list_before, &list),
     ];
     let nothing = [writer::REFUSED, writer::NOT_UNDERSTOOD].contains(&answered);
     let end = (answered as usize).min(room);

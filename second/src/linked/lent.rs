@@ -41,10 +41,6 @@ impl<W: Copy> Lent<W> {
     }
 }
 
-pub fn byte(random: &mut Random) -> u8 {
-    (random.next() >> 56) as u8
-}
-
 pub fn lend<W>(random: &mut Random, len: usize, mut fill: impl FnMut(&mut Random) -> W) -> Lent<W> {
     let start = random.between(1, MOST_MARGIN) as usize;
     let behind = random.between(1, MOST_MARGIN) as usize;
@@ -68,8 +64,8 @@ impl Buffers {
     pub fn for_case(random: &mut Random, case: &Case) -> Buffers {
         Buffers {
             list: Lent::holding(random, &case.list, Random::next),
-            startup: lend(random, case.startup_len, byte),
-            cycle: lend(random, case.cycle_len, byte),
+            startup: lend(random, case.startup_len, Random::byte),
+            cycle: lend(random, case.cycle_len, Random::byte),
             row: lend(random, case.row_len, Random::next),
         }
     }
