@@ -1,55 +1,74 @@
 //! What is asked for on the command line.
 
+use std::process::ExitCode;
 use std::str::FromStr;
 
-pub const USAGE: &str = "second [--seed N] [--lists N] [--say]\n\
-    (a run in which an answer never came fails, so fewer than some 20,000 lists may)\n\
+const USAGE: &str = "second [--seed N] [--lists N] [--texts N] [--say]\n\
+    (a run in which an answer never came fails, so fewer than some 20,000 lists or texts may; 0 leaves them out)\n\
+    second [--seed N] [--texts N] [--say] --through COMMAND [ARGS ..]\n\
+    second --answer < TEXT\n\
     second --try \"POLICY O C D T O C D T ...\" [--startup N] [--cycle N] [--row N]";
 
 pub struct Arguments {
     pub seed: u64,
-    pub lists: u64,
-    /// Print every list before it is handed over, to find one that ends the program.
+    pub texts: u64,
+    /// Print every list and text before it is handed over, to find one that ends the program.
     pub say: bool,
-    pub tried: Option<Vec<u64>>,
-    pub startup_len: Option<usize>,
-    pub cycle_len: Option<usize>,
-    pub row_len: Option<usize>,
+    pub asked: Asked,
+}
+
+/// An option and its value.
+pub type Given = (String, String);
+
+pub enum Asked {
+    /// Print our own output for standard input, and do nothing else.
+    Answer,
+    /// Compare a command that answers texts over pipes.
+    Through(Vec<String>),
+    /// Compare the library; these options are for that alone.
+    Library(Vec<Given>),
 }
 
 pub fn read(mut words: impl Iterator<Item = String>) -> Result<Arguments, String> {
-    let mut arguments = Arguments {
-        seed: 20_260_101,
-        lists: 100_000,
-        say: false,
-        tried: None,
-        startup_len: None,
-        cycle_len: None,
-        row_len: None,
-    };
+    let (mut seed, mut texts, mut say) = (20_260_101, 20_000, false);
+    let (mut asked, mut given) = (None, Vec::new());
     while let Some(name) = words.next() {
-        if name == "--say" {
-            arguments.say = true;
+        if name == "--say" || name == "--answer" {
+            say |= name == "--say";
+            asked = asked.or((name == "--answer").then_some(Asked::Answer));
             continue;
         }
         let value = words.next().ok_or(format!("{name} needs a value"))?;
         match name.as_str() {
-            "--seed" => arguments.seed = number(&value)?,
-            "--lists" => arguments.lists = number(&value)?,
-            "--try" => {
-                let list: Result<_, _> = value.split_whitespace().map(number).collect();
-                arguments.tried = Some(list?);
+            "--seed" => seed = number(&value)?,
+            "--texts" => texts = number(&value)?,
+            "--through" => {
+                let command = [value].into_iter().chain(&mut words).collect();
+                asked = Some(Asked::Through(command));
             }
-            "--startup" => arguments.startup_len = Some(number(&value)?),
-            "--cycle" => arguments.cycle_len = Some(number(&value)?),
-            "--row" => arguments.row_len = Some(number(&value)?),
-            _ => return Err(format!("{name} is not known")),
+            _ => given.push((name, value)),
         }
     }
-    Ok(arguments)
+    let asked = match (asked, given.first()) {
+        (Some(_), Some((name, _))) => return Err(format!("{name} is for the library alone")),
+        (Some(asked), None) => asked,
+        (None, _) => Asked::Library(given),
+    };
+    Ok(Arguments {
+        seed,
+        texts,
+        say,
+        asked,
+    })
 }
 
-fn number<N: FromStr>(word: &str) -> Result<N, String> {
+pub fn number<N: FromStr>(word: &str) -> Result<N, String> {
     let failed = |_| format!("{word:?} is not a number");
     word.parse().map_err(failed)
+}
+
+/// Says why, and how it is asked.
+pub fn not_understood(why: &str) -> ExitCode {
+    eprintln!("{why}\n{USAGE}");
+    ExitCode::from(2)
 }

@@ -35,19 +35,6 @@ impl Case {
         }
         case
     }
-
-    /// The words as they are typed to try the case again.
-    pub fn try_again(&self) -> String {
-        let words: Vec<String> = self.list.iter().map(u64::to_string).collect();
-        format!(
-            "--try \"{} {}\" --startup {} --cycle {} --row {}",
-            self.policy,
-            words.join(" "),
-            self.startup_len,
-            self.cycle_len,
-            self.row_len
-        )
-    }
 }
 
 pub fn words_of(tasks: &[Task]) -> Vec<u64> {

@@ -79,43 +79,6 @@ pub enum Answer {
     NotAsked,
 }
 
-impl Answer {
-    pub fn code(&self) -> u64 {
-        match self {
-            Answer::Feasible { .. } => 0,
-            Answer::Missed { .. } => 1,
-            Answer::Overloaded { .. } => 2,
-            Answer::Refused { .. } => 3,
-            Answer::NotAsked => 4,
-        }
-    }
-
-    /// The words of the row that this answer names, in the paper's order.
-    pub fn row(&self) -> Vec<u64> {
-        match *self {
-            Answer::Feasible {
-                largest_offset,
-                hyperperiod,
-                load,
-                idle,
-                preemptions,
-            } => vec![
-                largest_offset,
-                hyperperiod,
-                load,
-                idle[0],
-                idle[1],
-                preemptions[0],
-                preemptions[1],
-            ],
-            Answer::Missed { task, instant } => vec![task, instant],
-            Answer::Overloaded { load, hyperperiod } => vec![load, hyperperiod],
-            Answer::Refused { number, task } => vec![number, task],
-            Answer::NotAsked => vec![],
-        }
-    }
-}
-
 /// The least number up to `most` that every period divides; tried out, not computed.
 pub fn hyperperiod_within(periods: &[u64], most: u64) -> Option<u64> {
     let longest = *periods.iter().max()?;

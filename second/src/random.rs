@@ -25,6 +25,10 @@ impl Random {
         z ^ (z >> 31)
     }
 
+    pub fn byte(&mut self) -> u8 {
+        (self.next() >> 56) as u8
+    }
+
     /// A number from 0 to `bound` - 1.
     pub fn below(&mut self, bound: u64) -> u64 {
         ((u128::from(self.next()) * u128::from(bound)) >> 64) as u64

@@ -1,24 +1,24 @@
 //! A single list, tried by both programs and printed with its tables.
 
-use crate::arguments::Arguments;
+use super::arguments::Options;
+use super::compare::{by_library, by_walk, describe, differences, Outcome};
+use super::lent::Buffers;
 use crate::case::{self, Case};
-use crate::compare::{by_library, by_walk, describe, differences, Outcome};
-use crate::lent::Buffers;
 use crate::random::Random;
 use crate::verdict::judge;
 
 /// True when both answer alike and the walk keeps the paper's claims.
-pub fn try_one(words: &[u64], arguments: &Arguments) -> bool {
+pub fn try_one(words: &[u64], options: &Options, seed: u64) -> bool {
     let Some((&policy, list)) = words.split_first() else {
         println!("a list to try begins with its policy");
         return false;
     };
     let mut case = Case::exact(policy, list.to_vec());
-    case.startup_len = arguments.startup_len.unwrap_or(case.startup_len);
-    case.cycle_len = arguments.cycle_len.unwrap_or(case.cycle_len);
-    case.row_len = arguments.row_len.unwrap_or(case.row_len);
+    case.startup_len = options.startup_len.unwrap_or(case.startup_len);
+    case.cycle_len = options.cycle_len.unwrap_or(case.cycle_len);
+    case.row_len = options.row_len.unwrap_or(case.row_len);
     let verdict = judge(&case);
-    let buffers = Buffers::for_case(&mut Random::new(arguments.seed), &case);
+    let buffers = Buffers::for_case(&mut Random::new(seed), &case);
     let walk = by_walk(&verdict, buffers.clone());
     print("walk", &case, &walk);
     let mut reasons = verdict.broken;

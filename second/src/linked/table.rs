@@ -1,8 +1,8 @@
 //! The paper's own lists and borders, to which both programs are held.
 
+use super::compare::{by_library, by_walk, describe, differences, Outcome};
+use super::lent::{Buffers, Lent};
 use crate::case::Case;
-use crate::compare::{by_library, by_walk, describe, differences, Outcome};
-use crate::lent::{Buffers, Lent};
 use crate::random::Random;
 use crate::verdict::judge;
 use std::fmt::Display;

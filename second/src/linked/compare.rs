@@ -1,8 +1,8 @@
 //! Both programs on the same case and the same buffers, compared word by word.
 
+use super::lent::{Buffers, Lent};
 use crate::case::Case;
-use crate::lent::{Buffers, Lent};
-use crate::paper::{self, TASK_WORDS};
+use crate::paper::{self, Answer, TASK_WORDS};
 use crate::random::Random;
 use crate::verdict::Verdict;
 use std::fmt::Display;
@@ -15,13 +15,30 @@ pub struct Outcome {
 
 /// What the walk's verdict makes of the buffers; all that it does not name stays.
 pub fn by_walk(verdict: &Verdict, mut buffers: Buffers) -> Outcome {
-    let row = verdict.answer.row();
+    let (code, row) = code_and_row(verdict.answer);
     buffers.row.part_mut()[..row.len()].copy_from_slice(&row);
     buffers.startup.part_mut()[..verdict.startup.len()].copy_from_slice(&verdict.startup);
     buffers.cycle.part_mut()[..verdict.cycle.len()].copy_from_slice(&verdict.cycle);
-    Outcome {
-        code: verdict.answer.code(),
-        buffers,
+    Outcome { code, buffers }
+}
+
+/// An answer's code and the words of the row that it names, in the paper's order.
+fn code_and_row(answer: Answer) -> (u64, Vec<u64>) {
+    match answer {
+        Answer::Feasible {
+            largest_offset,
+            hyperperiod,
+            load,
+            idle,
+            preemptions,
+        } => {
+            let values = [largest_offset, hyperperiod, load];
+            (0, [&values[..], &idle, &preemptions].concat())
+        }
+        Answer::Missed { task, instant } => (1, vec![task, instant]),
+        Answer::Overloaded { load, hyperperiod } => (2, vec![load, hyperperiod]),
+        Answer::Refused { number, task } => (3, vec![number, task]),
+        Answer::NotAsked => (4, vec![]),
     }
 }
 
@@ -74,8 +91,8 @@ fn words_of(task: &sholakpite::Task) -> [u64; TASK_WORDS] {
     [task.offset, task.run, task.deadline, task.period]
 }
 
-/// Runs one case through the walk and every entry; a text comes back when anything differs.
-pub fn compare(case: &Case, verdict: &Verdict, random: &mut Random) -> Option<String> {
+/// Runs one case through the walk and every entry; what differs, with what it was found on.
+pub fn compare(case: &Case, verdict: &Verdict, random: &mut Random) -> Vec<String> {
     let buffers = Buffers::for_case(random, case);
     let walk = by_walk(verdict, buffers.clone());
     let mut lines = verdict.broken.clone();
@@ -86,15 +103,24 @@ pub fn compare(case: &Case, verdict: &Verdict, random: &mut Random) -> Option<St
             lines.extend(found);
         }
     }
-    if lines.is_empty() {
-        return None;
+    if !lines.is_empty() {
+        let walk = format!("walk: {}", describe(&walk));
+        lines.splice(0..0, [try_again(case), walk]);
     }
-    Some(format!(
-        "  {}\n  walk: {}\n  {}",
-        case.try_again(),
-        describe(&walk),
-        lines.join("\n  "),
-    ))
+    lines
+}
+
+/// The words as they are typed to try a case again.
+pub fn try_again(case: &Case) -> String {
+    let words: Vec<String> = case.list.iter().map(u64::to_string).collect();
+    format!(
+        "--try \"{} {}\" --startup {} --cycle {} --row {}",
+        case.policy,
+        words.join(" "),
+        case.startup_len,
+        case.cycle_len,
+        case.row_len
+    )
 }
 
 /// The code, and the first place of each buffer that differs, unchanged places included.
@@ -105,16 +131,22 @@ pub fn differences(walk: &Outcome, library: &Outcome) -> Vec<String> {
     let (a, b) = (&walk.buffers, &library.buffers);
     let places = [
         code,
-        place("row word", &a.row, &b.row),
-        place("startup entry", &a.startup, &b.startup),
-        place("cycle entry", &a.cycle, &b.cycle),
-        place("list word", &a.list, &b.list),
+        place("walk", "row word", &a.row, &b.row),
+        place("walk", "startup entry", &a.startup, &b.startup),
+        place("walk", "cycle entry", &a.cycle, &b.cycle),
+        place("walk", "list word", &a.list, &b.list),
     ];
     places.into_iter().flatten().collect()
 }
 
-fn place<W: Copy + PartialEq + Display>(name: &str, a: &Lent<W>, b: &Lent<W>) -> Option<String> {
-    let (entry, of_walk, of_library) = a.first_difference(b)?;
+/// The first place of a buffer that differs, outside the lent part too; `ours` is what our side is called.
+pub fn place<W: Copy + PartialEq + Display>(
+    ours: &str,
+    name: &str,
+    a: &Lent<W>,
+    b: &Lent<W>,
+) -> Option<String> {
+    let (entry, of_ours, of_library) = a.first_difference(b)?;
     let inside = (0..a.len as i64).contains(&entry);
     let outside = if inside {
         ""
@@ -122,7 +154,7 @@ fn place<W: Copy + PartialEq + Display>(name: &str, a: &Lent<W>, b: &Lent<W>) ->
         ", outside the lent part"
     };
     Some(format!(
-        "first different {name} {entry}{outside}: walk {of_walk}, library {of_library}"
+        "first different {name} {entry}{outside}: {ours} {of_ours}, library {of_library}"
     ))
 }
 

@@ -1,11 +1,12 @@
 //! How often each answer and each thing of interest came in a run.
 
 use crate::case::Case;
+use crate::counts::Counts;
 use crate::paper::{
     self, Answer, MOST_HYPERPERIOD, MOST_OFFSET, MOST_TASKS, ROW_WORDS, TASK_WORDS,
 };
 use crate::verdict::Verdict;
-use std::collections::{HashMap, HashSet};
+use std::collections::HashSet;
 
 /// Each line of the table, and whether a run without it fails.
 const LINES: [(&str, bool); 46] = [
@@ -59,36 +60,29 @@ const LINES: [(&str, bool); 46] = [
 
 const POLICIES: [&str; 4] = ["list order", "rate monotonic", "deadline monotonic", "EDF"];
 
-#[derive(Default)]
 pub struct Tally {
-    counts: HashMap<String, u64>,
+    pub counts: Counts,
     seen: HashSet<(u64, Vec<u64>)>,
 }
 
 impl Tally {
-    fn note(&mut self, line: &str) {
-        debug_assert!(LINES.iter().any(|(name, _)| *name == line), "{line}");
-        *self.counts.entry(line.to_string()).or_default() += 1;
-    }
-
-    fn note_if(&mut self, applies: bool, line: &str) {
-        if applies {
-            self.note(line);
+    pub fn of_lists() -> Tally {
+        Tally {
+            counts: Counts::of(LINES.map(|(line, required)| (line.to_string(), required))),
+            seen: HashSet::new(),
         }
     }
 
-    fn count(&self, line: &str) -> u64 {
-        self.counts.get(line).copied().unwrap_or(0)
-    }
-
     pub fn add(&mut self, case: &Case, verdict: &Verdict) {
-        self.note_if(case.row_len > ROW_WORDS, "row longer than eight words");
+        self.counts
+            .note_if(case.row_len > ROW_WORDS, "row longer than eight words");
         match verdict.answer {
             Answer::NotAsked => self.add_not_asked(case),
             Answer::Refused { number, .. } => self.add_refused(case, verdict, number),
             Answer::Overloaded { load, hyperperiod } => {
-                self.note("overloaded");
-                self.note_if(load == hyperperiod + 1, "overloaded by one slot");
+                self.counts.note("overloaded");
+                self.counts
+                    .note_if(load == hyperperiod + 1, "overloaded by one slot");
                 self.add_list(case);
             }
             Answer::Missed { instant, .. } => {
@@ -106,7 +100,7 @@ impl Tally {
         let policy = case.policy > 3;
         let words = !case.list.len().is_multiple_of(TASK_WORDS);
         let row = case.row_len < ROW_WORDS;
-        self.note(match (policy, words, row) {
+        self.counts.note(match (policy, words, row) {
             (true, false, false) => "code 4, policy above 3 alone",
             (false, true, false) => "code 4, words not a multiple of four alone",
             (false, false, true) => "code 4, row shorter than eight alone",
@@ -115,37 +109,40 @@ impl Tally {
     }
 
     fn add_refused(&mut self, case: &Case, verdict: &Verdict, number: u64) {
-        self.note(&format!("refused {number}"));
+        self.counts.note(&format!("refused {number}"));
         match case.list.len() / TASK_WORDS {
-            0 => self.note("refused 1, no task"),
-            17 => self.note("refused 1, 17 tasks"),
-            1_000 => self.note("refused 1, 1,000 tasks"),
+            0 => self.counts.note("refused 1, no task"),
+            17 => self.counts.note("refused 1, 17 tasks"),
+            1_000 => self.counts.note("refused 1, 1,000 tasks"),
             _ => {}
         }
         // Past refusal 6 the list has its M + H and H.
         if number == 7 {
             let short = case.startup_len as u64 + 1 == needed(case).0;
-            self.note_if(short, "refused 7, startup one short");
+            self.counts.note_if(short, "refused 7, startup one short");
         }
         if number == 8 {
             let short = case.cycle_len as u64 + 1 == needed(case).1;
-            self.note_if(short, "refused 8, cycle one short");
+            self.counts.note_if(short, "refused 8, cycle one short");
         }
         let several = verdict.refusals > 1;
-        self.note_if(several, "refused, and another refusal applies");
+        self.counts
+            .note_if(several, "refused, and another refusal applies");
     }
 
     fn add_missed(&mut self, case: &Case, instant: u64) {
         let policy = POLICIES[case.policy as usize];
         let (startup, cycle) = needed(case);
-        self.note(&format!("missed, {policy}"));
-        self.note_if(instant <= cycle, "first miss within the first H");
-        self.note_if(
+        self.counts.note(&format!("missed, {policy}"));
+        self.counts
+            .note_if(instant <= cycle, "first miss within the first H");
+        self.counts.note_if(
             instant > startup,
             &format!("first miss after M + H, {policy}"),
         );
         let half = startup + cycle / 2;
-        self.note_if(instant > half, "first miss after M + H + H/2");
+        self.counts
+            .note_if(instant > half, "first miss after M + H + H/2");
         self.add_buffers(case);
     }
 
@@ -157,11 +154,15 @@ impl Tally {
             return;
         };
         let tasks = case.list.len() / TASK_WORDS;
-        self.note(&format!("feasible, {}", POLICIES[case.policy as usize]));
-        self.note_if(tasks == 1, "one task, feasible");
-        self.note_if(tasks == MOST_TASKS, "16 tasks, feasible");
-        self.note_if(load == hyperperiod, "load exactly H, feasible");
-        self.note_if(verdict.last_preemption, "preemption at M + 2H");
+        self.counts
+            .note(&format!("feasible, {}", POLICIES[case.policy as usize]));
+        self.counts.note_if(tasks == 1, "one task, feasible");
+        self.counts
+            .note_if(tasks == MOST_TASKS, "16 tasks, feasible");
+        self.counts
+            .note_if(load == hyperperiod, "load exactly H, feasible");
+        self.counts
+            .note_if(verdict.last_preemption, "preemption at M + 2H");
         self.add_buffers(case);
     }
 
@@ -170,9 +171,12 @@ impl Tally {
         let startup_longer = case.startup_len as u64 > startup;
         let cycle_longer = case.cycle_len as u64 > cycle;
         let exact = !startup_longer && !cycle_longer;
-        self.note_if(startup_longer, "startup longer than needed, tables written");
-        self.note_if(cycle_longer, "cycle longer than needed, tables written");
-        self.note_if(exact, "both buffers exact, tables written");
+        self.counts
+            .note_if(startup_longer, "startup longer than needed, tables written");
+        self.counts
+            .note_if(cycle_longer, "cycle longer than needed, tables written");
+        self.counts
+            .note_if(exact, "both buffers exact, tables written");
     }
 
     /// What is noted of every list that is not refused.
@@ -180,26 +184,20 @@ impl Tally {
         let (startup, hyperperiod) = needed(case);
         let offset = startup - hyperperiod;
         self.seen.insert((case.policy, case.list.clone()));
-        self.note_if(offset > hyperperiod, "an offset beyond H, not refused");
-        self.note_if(hyperperiod >= 8_192, "H at least 8,192, not refused");
+        self.counts
+            .note_if(offset > hyperperiod, "an offset beyond H, not refused");
+        self.counts
+            .note_if(hyperperiod >= 8_192, "H at least 8,192, not refused");
         let most = hyperperiod == MOST_HYPERPERIOD;
-        self.note_if(most, "H exactly 16,384, not refused");
-        self.note_if(offset == MOST_OFFSET, "M exactly 16,384, not refused");
+        self.counts.note_if(most, "H exactly 16,384, not refused");
+        self.counts
+            .note_if(offset == MOST_OFFSET, "M exactly 16,384, not refused");
     }
 
     pub fn print(&self) {
-        for (line, required) in LINES {
-            let mark = if required { "" } else { "  (not required)" };
-            println!("  {line:<46}{:>9}{mark}", self.count(line));
-        }
+        self.counts.print();
         let different = "different lists and policies, not refused";
         println!("  {different:<46}{:>9}", self.seen.len());
-    }
-
-    /// The lines that must come in every run and did not.
-    pub fn never_came(&self) -> Vec<&'static str> {
-        let missing = |line: &&(&str, bool)| line.1 && self.count(line.0) == 0;
-        LINES.iter().filter(missing).map(|line| line.0).collect()
     }
 }
 

@@ -32,7 +32,16 @@ impl<W: Copy + PartialEq> Lent<W> {
     }
 }
 
-fn lend<W>(random: &mut Random, len: usize, mut fill: impl FnMut(&mut Random) -> W) -> Lent<W> {
+impl<W: Copy> Lent<W> {
+    /// A lent part that holds these words.
+    pub fn holding(random: &mut Random, words: &[W], fill: impl FnMut(&mut Random) -> W) -> Self {
+        let mut lent = lend(random, words.len(), fill);
+        lent.part_mut().copy_from_slice(words);
+        lent
+    }
+}
+
+pub fn lend<W>(random: &mut Random, len: usize, mut fill: impl FnMut(&mut Random) -> W) -> Lent<W> {
     let start = random.between(1, MOST_MARGIN) as usize;
     let behind = random.between(1, MOST_MARGIN) as usize;
     Lent {
@@ -53,13 +62,10 @@ pub struct Buffers {
 
 impl Buffers {
     pub fn for_case(random: &mut Random, case: &Case) -> Buffers {
-        let byte = |random: &mut Random| (random.next() >> 56) as u8;
-        let mut list = lend(random, case.list.len(), Random::next);
-        list.part_mut().copy_from_slice(&case.list);
         Buffers {
-            list,
-            startup: lend(random, case.startup_len, byte),
-            cycle: lend(random, case.cycle_len, byte),
+            list: Lent::holding(random, &case.list, Random::next),
+            startup: lend(random, case.startup_len, Random::byte),
+            cycle: lend(random, case.cycle_len, Random::byte),
             row: lend(random, case.row_len, Random::next),
         }
     }
