@@ -2,7 +2,7 @@
  * Sholakpite: whether a list of periodic tasks ever misses a deadline on one core, and its slot tables.
  *
  * The functions behind this header are written in Rattle and proved to meet their promises
- * (crates/sholakpite/specs/Words.antt). This header is not: it is assumed to match.
+ * (crates/words/specs/Words.antt, crates/sholakpite/specs/Texts.antt). This header is not: it is assumed to match.
  */
 #ifndef SHOLAKPITE_H
 #define SHOLAKPITE_H
@@ -73,6 +73,33 @@ uint64_t sholakpite_check(uint64_t policy, const uint64_t *list, size_t list_len
 /* The same for a list of task structs; list_len counts tasks, so only the policy and row can be misunderstood. */
 uint64_t sholakpite_check_tasks(uint64_t policy, const struct sholakpite_task *list, size_t list_len, uint8_t *startup,
                                 size_t startup_len, uint8_t *cycle, size_t cycle_len, uint64_t *row, size_t row_len);
+
+/* The longest input that is read, and the longest output that there is. */
+#define SHOLAKPITE_LONGEST_INPUT 4096
+#define SHOLAKPITE_LONGEST_OUTPUT 147547
+
+/*
+ * What the program prints for an input: any bytes, of any length. README.md has the format of lists and all lines that can
+ * be printed.
+ *
+ * Answers the output's length, with the output in out and later bytes as they were; or 0, with nothing written, exactly
+ * when out is shorter than the output. SHOLAKPITE_LONGEST_OUTPUT bytes are always enough. The output does not end with a
+ * byte 0. Pointers and regions as above.
+ */
+uint64_t sholakpite_answer(const uint8_t *input, size_t input_len, uint8_t *out, size_t out_len);
+
+/* What sholakpite_write answers for a list that has no text, or none that fits. No text has this length. */
+#define SHOLAKPITE_NOT_WRITTEN 13
+
+/*
+ * The text of a policy and a list of words, O C D T for each task; reading it gives the same policy and list.
+ *
+ * Answers the text's length, with the text in out and later bytes as they were; or 13, with nothing written, exactly when
+ * there are more than 16 tasks, a number is above 999,999 or out is shorter than the text:
+ * SHOLAKPITE_LONGEST_INPUT bytes are always enough. Or 4, with nothing written and before that, exactly when policy is
+ * above 3 or list_len is not a multiple of 4. Pointers and regions as above.
+ */
+uint64_t sholakpite_write(uint64_t policy, const uint64_t *list, size_t list_len, uint8_t *out, size_t out_len);
 
 #ifdef __cplusplus
 }

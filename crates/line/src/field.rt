@@ -5,7 +5,7 @@ ghost use Rattle.line.specs.Places.{until, fieldAt};
 use crate::number::Number;
 use crate::number::value_of;
 
-pub const SPACE: u8 = b' ';
+pub(crate) const SPACE: u8 = b' ';
 
 // A field's number and where it ends.
 pub enum Field {
@@ -25,7 +25,7 @@ pub fn before(s: &[u8], mark: u8) -> usize
     s.len()
 }
 
-pub fn same(a: &[u8], b: &[u8]) -> bool
+pub(crate) fn same(a: &[u8], b: &[u8]) -> bool
     ensures { λ r. ⌜ r ≡ same (now (a .entry)) (now (b .entry)) ⌝ }
 {
     if a.len() != b.len() {
@@ -40,7 +40,7 @@ pub fn same(a: &[u8], b: &[u8]) -> bool
 }
 
 // The number after the space at `at`.
-pub fn number_after(line: &[u8], at: usize) -> Field
+pub(crate) fn number_after(line: &[u8], at: usize) -> Field
     ensures { λ r. ⌜ r ≡ fieldAt (now (line .entry)) at ⌝ }
 {
     if line.len() <= at {

@@ -9,7 +9,7 @@ pub enum Number {
 }
 
 // 0 to 999,999 without leading zeros.
-pub fn value_of(field: &[u8]) -> Number
+pub(crate) fn value_of(field: &[u8]) -> Number
     ensures { λ r. ⌜ r ≡ numberOf (now (field .entry)) ⌝ }
 {
     if field.len() == 0 {

@@ -1,4 +1,1 @@
-pub mod Reading
-pub mod Rows
-pub mod Calls
 pub mod TextCalls

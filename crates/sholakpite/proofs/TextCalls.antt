@@ -10,7 +10,7 @@ use Rattle.writer.specs.declared.Saved.{Saved}
 use Rattle.writer.specs.Writing.{SavedAs, numberOf}
 use Rattle.writer.proofs.Pinned.{saved-pinned}
 use Rattle.output.proofs.Pinned.{answered-pinned}
-use Rattle.sholakpite.specs.Words.{policyOf, tasksOf, lastPolicy, ragged}
+use Rattle.words.specs.Words.{policyOf, tasksOf, lastPolicy, ragged}
 use Rattle.sholakpite.specs.Texts.{lengthOf, AnsweredText, eitherText, WrittenText}
 
 -- `sholakpite_answer` has one outcome

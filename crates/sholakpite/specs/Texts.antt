@@ -10,7 +10,7 @@ use Rattle.text.specs.Reading.{reading}
 use Rattle.writer.specs.declared.Saved.{Saved}
 use Rattle.writer.specs.Writing.{SavedAs, numberOf}
 use Rattle.output.specs.Output.{Answered}
-use Rattle.sholakpite.specs.Words.{policyOf, tasksOf, lastPolicy, ragged}
+use Rattle.words.specs.Words.{policyOf, tasksOf, lastPolicy, ragged}
 
 -- the output's length, or 0 for a buffer that is shorter: no output is empty
 abbrev pub lengthOf : Written → ℕ

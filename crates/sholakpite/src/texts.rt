@@ -1,10 +1,10 @@
 // Texts for callers in C and Rust: an input's output, and the text of a list.
 ghost use Rattle.sholakpite.specs.Texts.{AnsweredText, WrittenText};
-use crate::NOT_UNDERSTOOD;
-use crate::words;
-use crate::words::policy_of;
-use crate::words::tasks_of;
 use decimal::Written;
+use words::NOT_UNDERSTOOD;
+use words::list;
+use words::list::policy_of;
+use words::list::tasks_of;
 
 // What the program prints for an input, and its length; 0, with nothing written, where `out` is shorter.
 #[no_mangle]
@@ -22,10 +22,10 @@ pub extern "C" fn sholakpite_answer(input: &[u8], out: &mut [u8]) -> u64
 pub extern "C" fn sholakpite_write(policy: u64, list: &[u64], out: &mut [u8]) -> u64
     ensures { λ r. ⌜ WrittenText policy (now (list .entry)) (now (out .entry)) r (now (out .exit)) ⌝ }
 {
-    if list.len() % words::EACH != 0 {
+    if list.len() % list::EACH != 0 {
         return NOT_UNDERSTOOD;
     }
-    if words::LAST_POLICY < policy {
+    if list::LAST_POLICY < policy {
         return NOT_UNDERSTOOD;
     }
     let saved = writer::write(tasks_of(list), policy_of(policy), out);

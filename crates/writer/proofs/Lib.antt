@@ -6,3 +6,4 @@ pub mod Canonical
 pub mod Laying
 pub mod Saving
 pub mod Pinned
+pub mod Read

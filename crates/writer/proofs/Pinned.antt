@@ -6,6 +6,10 @@ use Prim.Native.Nat.{ℕ}
 use lib.Dec.{ltb}
 use lib.ListN.{length}
 use Rattle.task.specs.declared.Task.{Task}
+use Rattle.task.specs.declared.list.Tasks.{Tasks}
+use Rattle.task.specs.Limits.{mostTasks}
+use Rattle.task.specs.Arrays.{Holds}
+use Rattle.task.proofs.Held.{held}
 use Rattle.schedule.specs.declared.Policy.{Policy}
 use Rattle.writer.specs.declared.Saved.{Saved}
 use Rattle.writer.specs.Writing.{text, unwritable, either, SavedAs}
@@ -17,3 +21,12 @@ module _ (p : Policy) (l : List Task) (buffer : List ℕ) (r r′ : Saved) (left
 
   pub saved-pinned : SavedAs p l buffer r left → SavedAs p l buffer r′ left′ → (r ≡ r′) × (left ≡ left′)
   saved-pinned = either-pinned (unwritable l || ltb (length buffer) (length (text p l)))
+
+-- the array holds a list, and for that list there is one
+pub write-pinned : (ts : Tasks) → length (ts .items) ≡ mostTasks → (p : Policy) (buffer : List ℕ) (r r′ : Saved) (left left′ : List ℕ) →
+    ((l : List Task) → Holds ts l → SavedAs p l buffer r left) →
+    ((l : List Task) → Holds ts l → SavedAs p l buffer r′ left′) → (r ≡ r′) × (left ≡ left′)
+write-pinned ts full p buffer r r′ left left′ x y = of-list _ (held ts full)
+  where
+    of-list : (l : List Task) → Holds ts l → (r ≡ r′) × (left ≡ left′)
+    of-list l h = saved-pinned p l buffer r r′ left left′ (x l h) (y l h)

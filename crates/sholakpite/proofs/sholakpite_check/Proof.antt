@@ -2,8 +2,8 @@
 use mathlib.Core.Bool.{_||_}
 use borrow.Author.Tests.{eq-eqb, ne-eqb}
 use Rattle.task.proofs.Copied.{held-array}
-use Rattle.sholakpite.specs.Words.{tasksOf, misread, ragged}
-use Rattle.sholakpite.proofs.Calls.{not-understood, of-words}
+use Rattle.words.specs.Words.{tasksOf, misread, ragged}
+use Rattle.words.proofs.Calls.{not-understood, of-words}
 use borrow.Author.Needs.{needs}
 use Rattle.sholakpite.proofs.sholakpite_check.Statement.{statement}
 use Rattle.sholakpite.proofs.sholakpite_check.Tie as tie

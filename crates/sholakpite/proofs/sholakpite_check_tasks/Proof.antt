@@ -40,7 +40,7 @@ use Rattle.task.specs.declared.Task.{Task}
 use Rattle.task.specs.declared.list.Tasks.{Tasks}
 use Rattle.task.specs.Arrays.{Holds, arrayOf}
 use Rattle.task.proofs.Copied.{held-array}
-use Rattle.sholakpite.specs.Words.{Answered}
+use Rattle.words.specs.Words.{Answered}
 use Rattle.task.proofs.Task as T
 use Rattle.task.proofs.list.Tasks as S
 use Rattle.task.proofs.list.Tasks.Laws as S′
@@ -48,10 +48,10 @@ use Rattle.lent.proofs.load as load′
 use Rattle.lent.proofs.load.Symbol as load-def
 use Rattle.lent.proofs.load.Symbol.{name as #lent·load}
 use Rattle.lent.proofs.load.Met as load-thm
-use Rattle.sholakpite.proofs.answered as answered
-use Rattle.sholakpite.proofs.answered.Symbol as answered-def
-use Rattle.sholakpite.proofs.answered.Symbol.{name as #answered}
-use Rattle.sholakpite.proofs.answered.Met as answered-thm
+use Rattle.words.proofs.answered as answered
+use Rattle.words.proofs.answered.Symbol as answered-def
+use Rattle.words.proofs.answered.Symbol.{name as #answered}
+use Rattle.words.proofs.answered.Met as answered-thm
 use Rattle.sholakpite.proofs.sholakpite_check_tasks.Key.{name as #top}
 use Rattle.sholakpite.proofs.sholakpite_check_tasks as top
 use Rattle.sholakpite.proofs.sholakpite_check_tasks.Statement as stated
@@ -197,4 +197,4 @@ sholakpite-check-tasks-spec 𝓤 H 𝓜 𝓖 𝓡 =
     (tables 𝓤 H 𝓜 𝓡 code.env .C) (tables 𝓤 H 𝓜 𝓡 code.env .Λ) #top code.function (code.unfolded 𝓤 H 𝓜 𝓡)
     (top-meets 𝓤 H (𝓖 .A) (givenOf 𝓤 H 𝓜 𝓖) (𝓜 .mem) (𝓡 .run) (tablesOf 𝓤 H 𝓜 (tables 𝓤 H 𝓜 𝓡 code.env))
     (cited 𝓤 H (Load 𝓤 H (𝓖 .A) (𝓜 .mem) (𝓡 .run)) 𝓜 𝓡 code.env #lent·load load-def.routine code.calls-lent·load (load-thm.met 𝓤 H 𝓜 𝓖 𝓡))
-    (cited 𝓤 H (Answers 𝓤 H (𝓖 .A) (𝓜 .mem) (𝓡 .run)) 𝓜 𝓡 code.env #answered answered-def.routine code.calls-sholakpite·answered (answered-thm.met 𝓤 H 𝓜 𝓖 𝓡)))
+    (cited 𝓤 H (Answers 𝓤 H (𝓖 .A) (𝓜 .mem) (𝓡 .run)) 𝓜 𝓡 code.env #answered answered-def.routine code.calls-words·answered (answered-thm.met 𝓤 H 𝓜 𝓖 𝓡)))

@@ -6,7 +6,7 @@ use lib.ListN.{length}
 use borrow.Author.Needs.{needs}
 use borrow.Author.Tests.{eq-eqb, ne-eqb, lt-ltb, le-ltb}
 use Rattle.task.proofs.Copied.{held-array}
-use Rattle.sholakpite.specs.Words.{tasksOf, lastPolicy, ragged, taskWords}
+use Rattle.words.specs.Words.{tasksOf, lastPolicy, ragged, taskWords}
 use Rattle.sholakpite.proofs.TextCalls.{text-not-understood, text-understood}
 use Rattle.sholakpite.proofs.texts.sholakpite_write.Statement.{statement}
 use Rattle.sholakpite.proofs.texts.sholakpite_write.Tie as tie

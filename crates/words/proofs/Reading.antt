@@ -6,8 +6,8 @@ use native.Mathlib.Omega.{arith}
 use lib.ListN.{length}
 use Rattle.task.specs.Tasks.{task}
 use Rattle.schedule.specs.declared.Policy.the-variants.{Edf}
-use Rattle.sholakpite.specs.Words.{policyOf, tasksOf}
-use Rattle.sholakpite.specs.Reading.{taskAt}
+use Rattle.words.specs.Words.{policyOf, tasksOf}
+use Rattle.words.specs.Reading.{taskAt}
 
 pub policy-edf : (n : ℕ) → 3 ≤ n → policyOf n ≡ Edf
 policy-edf zero h = absurd (omega arith)

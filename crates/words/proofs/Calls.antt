@@ -9,7 +9,7 @@ use Rattle.answer.specs.declared.Answer.{Answer}
 use Rattle.answer.specs.Answers.{row}
 use Rattle.answer.specs.Promise.{Promised}
 use Rattle.answer.proofs.Pinned.{answer-pinned}
-use Rattle.sholakpite.specs.Words.{policyOf, tasksOf, code, written, misread, ragged, either, Answered, AnsweredWords}
+use Rattle.words.specs.Words.{policyOf, tasksOf, code, written, misread, ragged, either, Answered, AnsweredWords}
 
 module _ (policy : ℕ) (l : List Task) (startup cycle words : List ℕ) where
   pub not-understood : (b : Bool) → b ≡ true → either policy l startup cycle words b 4 startup cycle words

@@ -3,10 +3,10 @@ use mathlib.Core.Path.{refl, ap, _∙_}
 use mathlib.Core.List.{_∷_}
 use Prim.Native.Nat.{ℕ}
 use lib.ListN.{drop}
-use Rattle.sholakpite.proofs.Rows.{told}
+use Rattle.words.proofs.Rows.{told}
 use borrow.Author.Needs.{needs}
-use Rattle.sholakpite.proofs.row.tell.Statement.{statement}
-use Rattle.sholakpite.proofs.row.tell.Tie as tie
+use Rattle.words.proofs.row.tell.Statement.{statement}
+use Rattle.words.proofs.row.tell.Tie as tie
 
 enum-known-answer : tie.Need-enum-known-answer
 enum-known-answer c = search needs

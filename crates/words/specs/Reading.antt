@@ -4,7 +4,7 @@ use Prim.Native.Nat.{ℕ, _+_, _*_}
 use lib.ListN.{getD}
 use Rattle.task.specs.declared.Task.{Task}
 use Rattle.task.specs.Tasks.{taskOf}
-use Rattle.sholakpite.specs.Words.{taskWords}
+use Rattle.words.specs.Words.{taskWords}
 
 abbrev pub taskAt : List ℕ → ℕ → Task
 taskAt words i =

@@ -1,10 +1,10 @@
 -- `answered` meets its contract: each early return is at a test of `misread`, and the last one tells what `check` answers.
 use borrow.Author.Tests.{lt-ltb, le-ltb}
-use Rattle.sholakpite.specs.Words.{misread}
-use Rattle.sholakpite.proofs.Calls.{not-understood, understood}
+use Rattle.words.specs.Words.{misread}
+use Rattle.words.proofs.Calls.{not-understood, understood}
 use borrow.Author.Needs.{needs}
-use Rattle.sholakpite.proofs.answered.Statement.{statement}
-use Rattle.sholakpite.proofs.answered.Tie as tie
+use Rattle.words.proofs.answered.Statement.{statement}
+use Rattle.words.proofs.answered.Tie as tie
 
 returns : tie.Need-returns
 returns c =

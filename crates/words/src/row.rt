@@ -4,7 +4,7 @@ ghost use Prim.Native.Nat.{_≤_};
 ghost use mathlib.Core.List.{_∷_};
 ghost use lib.ListN.{length, drop};
 ghost use Rattle.answer.specs.Answers.{feasible, row as rowOf};
-ghost use Rattle.sholakpite.specs.Words.{code, rowLength, written};
+ghost use Rattle.words.specs.Words.{code, rowLength, written};
 use answer::Answer;
 use answer::Plan;
 

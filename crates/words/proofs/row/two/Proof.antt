@@ -2,9 +2,9 @@
 use native.Mathlib.Omega.{arith}
 use lib.ListN.{length-set}
 use borrow.Author.Needs.{needs}
-use Rattle.sholakpite.proofs.Rows.{two-set}
-use Rattle.sholakpite.proofs.row.two.Statement.{statement}
-use Rattle.sholakpite.proofs.row.two.Tie as tie
+use Rattle.words.proofs.Rows.{two-set}
+use Rattle.words.proofs.row.two.Statement.{statement}
+use Rattle.words.proofs.row.two.Tie as tie
 
 slice-write-row : tie.Need-slice-write-row
 slice-write-row c = search needs

@@ -2,9 +2,9 @@
 use mathlib.Core.Path.{sym}
 use native.Mathlib.Omega.{arith}
 use borrow.Author.Needs.{needs}
-use Rattle.sholakpite.proofs.Reading.{policy-edf}
-use Rattle.sholakpite.proofs.words.policy_of.Statement.{statement}
-use Rattle.sholakpite.proofs.words.policy_of.Tie as tie
+use Rattle.words.proofs.Reading.{policy-edf}
+use Rattle.words.proofs.list.policy_of.Statement.{statement}
+use Rattle.words.proofs.list.policy_of.Tie as tie
 
 returns : tie.Need-returns
 returns c = search needs

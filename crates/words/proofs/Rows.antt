@@ -6,7 +6,7 @@ use native.Mathlib.Omega.{arith}
 use lib.ListN.{length, set, drop}
 use Rattle.answer.specs.declared.Answer.{Answer}
 use Rattle.answer.specs.Answers.{row}
-use Rattle.sholakpite.specs.Words.{code, written}
+use Rattle.words.specs.Words.{code, written}
 
 pub two-set : (xs : List ℕ) (a b : ℕ) → 2 ≤ length xs → set (set xs 0 a) 1 b ≡ a ∷ b ∷ drop 2 xs
 two-set [] a b h = absurd (omega arith)

@@ -3,19 +3,19 @@ ghost use mathlib.Core.Path.{_≡_};
 ghost use Prim.Native.Nat.{_+_, _*_, _<_};
 ghost use lib.ListN.{length};
 ghost use Rattle.task.specs.Arrays.{arrayOf};
-ghost use Rattle.sholakpite.specs.Words.{policyOf, taskWords, tasksOf};
-ghost use Rattle.sholakpite.specs.Reading.{taskAt};
+ghost use Rattle.words.specs.Words.{policyOf, taskWords, tasksOf};
+ghost use Rattle.words.specs.Reading.{taskAt};
 use schedule::Policy;
 use task::Task;
 use task::list::Tasks;
 
 // The words of a task: O, C, D, T.
-pub(crate) const EACH: usize = 4;
+pub const EACH: usize = 4;
 
-pub(crate) const LAST_POLICY: u64 = 3;
+pub const LAST_POLICY: u64 = 3;
 
 // 0 list order, 1 rate monotonic, 2 deadline monotonic, 3 earliest deadline first.
-pub(crate) fn policy_of(number: u64) -> Policy
+pub fn policy_of(number: u64) -> Policy
     ensures { λ r. ⌜ r ≡ policyOf number ⌝ }
 {
     match number {
@@ -26,7 +26,7 @@ pub(crate) fn policy_of(number: u64) -> Policy
     }
 }
 
-pub(crate) fn tasks_of(list: &[u64]) -> Tasks
+pub fn tasks_of(list: &[u64]) -> Tasks
     ensures { λ r. ⌜ r ≡ arrayOf (tasksOf (now (list .entry))) ⌝ }
 {
     let n = list.len() / EACH;

@@ -8,10 +8,10 @@ use Rattle.task.specs.declared.Task.{Task}
 use Rattle.task.specs.declared.list.Tasks.{Tasks}
 use Rattle.task.specs.Arrays.{blank, stored, copied, fitting}
 use Rattle.task.proofs.Copied.{copied-none, copied-more}
-use Rattle.sholakpite.specs.Words.{tasksOf}
-use Rattle.sholakpite.proofs.Reading.{tasks-length, task-read}
-use Rattle.sholakpite.proofs.words.tasks_of.Statement.{statement}
-use Rattle.sholakpite.proofs.words.tasks_of.Tie as tie
+use Rattle.words.specs.Words.{tasksOf}
+use Rattle.words.proofs.Reading.{tasks-length, task-read}
+use Rattle.words.proofs.list.tasks_of.Statement.{statement}
+use Rattle.words.proofs.list.tasks_of.Tie as tie
 
 abbrev Inv-loop : tie.InvT-loop
 Inv-loop list n tasks₀ end i₀ tasks i = (i ≤ end) × (end ≡ fitting (length list / 4)) × (tasks ≡ copied (tasksOf list) i)
