@@ -11,7 +11,7 @@ fn at_end() -> bool {
     libc::read(STDIN_FILENO, &mut [0u8; 1]) == 0
 }
 
-// The buffer has room for every output, so that none is short (`answered-whole`).
+// The buffer has room for every output, so that none is short (`printed-whole`).
 fn say(input: &[u8]) {
     let mut out = [0u8; output::LONGEST_OUTPUT];
     if let Written::Length(n) = output::answer(input, &mut out) {

@@ -2,17 +2,18 @@
 use mathlib.Core.Path.{_≡_, refl, sym, _∙_, ap}
 use mathlib.Core.Bool.{Bool, true, false}
 use mathlib.Core.List.{List, [], _∷_, _++_}
-use Prim.Native.Nat.{ℕ, zero, suc, _+_, _≤_, _<_, min}
+use Prim.Native.Nat.{ℕ, suc, _+_, _≤_, _<_, min}
 use native.Mathlib.Omega.{arith}
 use native.Mathlib.Decide.{decLe}
 use native.Mathlib.Nat.{add-zero, zero-add, add-suc, suc-add}
 use lib.Dec.{ltb}
-use lib.ListN.{length, set, drop, length-append, length-set}
+use lib.ListN.{length, set, drop, length-append}
 use lib.Seq.{sets, sets-eq, set-out, length-sets}
 use borrow.Author.Tests.{lt-ltb, le-ltb}
 use Rattle.decimal.specs.declared.Written.{Written}
 use Rattle.decimal.specs.declared.Written.the-variants.{Length, Short}
-use Rattle.decimal.specs.Laying.{Laid, Wrote, eitherWay, largest}
+use Rattle.task.specs.Limits.{largest}
+use Rattle.decimal.specs.Laying.{Laid, Wrote, eitherWay}
 
 sets-out : (vs l : List ℕ) (i : ℕ) → length l ≤ i → sets l i vs ≡ l
 sets-out [] l i h = refl

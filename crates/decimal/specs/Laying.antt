@@ -2,16 +2,13 @@
 use mathlib.Core.Path.{_≡_}
 use mathlib.Core.Bool.{Bool, true, false}
 use mathlib.Core.List.{List, _++_}
-use Prim.Native.Nat.{ℕ, _+_, _-_, _^_, min}
+use Prim.Native.Nat.{ℕ, _+_, min}
 use lib.Dec.{ltb}
 use lib.ListN.{length, drop}
 use lib.Seq.{sets}
+use Rattle.task.specs.Limits.{largest}
 use Rattle.decimal.specs.declared.Written.{Written}
 use Rattle.decimal.specs.declared.Written.the-variants.{Length, Short}
-
--- the largest 64-bit number
-abbrev pub largest : ℕ
-largest = 2 ^ 64 - 1
 
 -- a text from place `at` on, as far as the buffer goes, and the place after it, which no buffer has where it is `largest`
 pub record Laid (at : ℕ) (text buffer : List ℕ) (next : ℕ) (left : List ℕ) : Type 0 where

@@ -3,7 +3,8 @@ ghost use mathlib.Core.Path.{_≡_};
 ghost use mathlib.Core.List.{[], _∷_};
 ghost use Prim.Native.Nat.{suc, min, _<_};
 ghost use Rattle.decimal.specs.Decimal.{decimal, digit};
-ghost use Rattle.decimal.specs.Laying.{Laid, largest};
+ghost use Rattle.task.specs.Limits.{largest};
+ghost use Rattle.decimal.specs.Laying.{Laid};
 
 // What comes of a text and a lent buffer: the text's length, or that the buffer is shorter and nothing is written.
 pub enum Written {

@@ -2,7 +2,7 @@
 use mathlib.Core.Path.{_≡_, refl}
 use mathlib.Core.Bool.{Bool, true, false}
 use mathlib.Core.List.{List, [], _∷_}
-use Prim.Native.Nat.{ℕ, suc, _+_, _*_, _-_, _≤_, _<_}
+use Prim.Native.Nat.{ℕ, _+_, _*_, _-_, _≤_, _<_}
 use native.Mathlib.Omega.{arith}
 use native.Mathlib.Numerals.{add-one}
 use lib.Dec.{ltb}
@@ -10,8 +10,7 @@ use lib.ListN.{length, drop, getD}
 use lib.Seq.{drop-cons}
 use borrow.Author.Tests.{le-leb, lt-leb}
 use Rattle.decimal.specs.Decimal.{nought, digit}
-use Rattle.line.specs.declared.number.Number.{Number}
-use Rattle.line.specs.declared.number.Number.the-variants.{Of, Not}
+use Rattle.line.specs.declared.number.Number.the-variants.{Not}
 use Rattle.line.specs.Lines.{largestNumber, isDigit, numberIf, valueOn, within, numberOf}
 
 -- a value above the limit stays above it, whatever digits follow

@@ -1,7 +1,7 @@
 -- A line's fields, one after the other: what each call of `number_after` says of those that are left.
-use mathlib.Core.Path.{_≡_, refl, sym, _∙_, ap}
+use mathlib.Core.Path.{_≡_, refl, _∙_}
 use mathlib.Core.Bool.{true, false}
-use mathlib.Core.List.{List, [], _∷_}
+use mathlib.Core.List.{List}
 use Prim.Native.Nat.{ℕ, suc, _+_, _-_, _≤_, _<_}
 use native.Mathlib.Omega.{arith}
 use native.Mathlib.Decide.{decLt}
@@ -18,7 +18,7 @@ use Rattle.line.specs.declared.field.Field.{Field}
 use Rattle.line.specs.declared.field.Field.the-variants.{Ends, Unread}
 use Rattle.line.specs.declared.Line.{Line}
 use Rattle.line.specs.declared.Line.the-variants.{Task as taskLine, Unread as noTaskLine}
-use Rattle.line.specs.Lines.{parts, same, numberOf}
+use Rattle.line.specs.Lines.{same, numberOf}
 use Rattle.line.specs.Places.{until, endsAt, fieldFrom, fieldAt}
 use Rattle.line.specs.Kinds.{withNumber, next, last, lineOf}
 use Rattle.line.proofs.Places.{rest-is, behind, parts-until, behind-none, behind-mark}

@@ -11,6 +11,7 @@ use Rattle.line.specs.declared.number.Number.the-variants.{Of, Not}
 abbrev pub largestNumber : ℕ
 largestNumber = 999999
 
+-- a mark begins a new part, another byte stands in front of the part that follows
 abbrev pub begin : Bool → ℕ → List (List ℕ) → List (List ℕ)
 begin true b parts = [] ∷ parts
 begin false b [] = (b ∷ []) ∷ []
@@ -43,7 +44,7 @@ abbrev pub within : Number → Number
 within (Of v) = numberIf (leb v largestNumber) (Of v)
 within Not = Not
 
--- 0 to 999,999 without leading zeros
+-- 0 to 999,999 without leading zeros: of several digits the first is above 0
 abbrev pub numberOf : List ℕ → Number
 numberOf [] = Not
 numberOf (b ∷ []) = within (valueOn 0 (b ∷ []))

@@ -1,6 +1,5 @@
 -- How large the numbers of a report are, for a list that is not refused.
 use mathlib.Core.List.{List}
-use mathlib.Core.Bool.{Bool, true, false}
 use Prim.Native.Nat.{ℕ, zero, suc, _+_, _*_, _≤_, _<_}
 use native.Mathlib.Nat.{mul-le-mul-right}
 use native.Mathlib.Omega.{arith}
@@ -10,20 +9,11 @@ use Rattle.task.specs.Limits.{mostTasks, latestOffset, longestHyperperiod}
 use Rattle.task.specs.Tasks.{task, latest, hyperperiod, sum, turns, want, load}
 use Rattle.task.proofs.Refusing.{Passed}
 use Rattle.task.proofs.Offsets.{latest-least}
-use Rattle.schedule.specs.Job.{one-if, count}
 use Rattle.schedule.proofs.Admitted.{is-sound}
 
 sum-most : (f : ℕ → ℕ) (c n : ℕ) → ((i : ℕ) → i < n → f i ≤ c) → sum f n ≤ c * n
 sum-most f c zero h = omega arith
 sum-most f c (suc n) h = omega (arith, sum-most f c n (λ i b. h i (omega arith)), h n (omega arith))
-
-one-most : (b : Bool) → one-if b ≤ 1
-one-most true = omega arith
-one-most false = omega arith
-
--- a count is at most the number of instants
-pub count-most : (test : ℕ → Bool) (t n : ℕ) → count test t n ≤ n
-count-most test t n = omega (arith, sum-most (λ j. one-if (test (t + j))) 1 n (λ j b. one-most (test (t + j))))
 
 module _ {l : List Task} {startup cycle : ℕ} (ok : Passed l startup cycle) where
   pub latest-early : latest l ≤ latestOffset

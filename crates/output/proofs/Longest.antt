@@ -1,7 +1,7 @@
 -- No output is longer than that of a feasible list with the longest tables.
 use mathlib.Core.Path.{_≡_, refl}
 use mathlib.Core.List.{List}
-use Prim.Native.Nat.{ℕ, suc, _+_, _*_, _^_, _≤_, _<_}
+use Prim.Native.Nat.{ℕ, suc, _+_, _^_, _≤_, _<_}
 use native.Mathlib.Omega.{arith}
 use native.Mathlib.Nat.{le-trans}
 use lib.ListN.{length, length-append}
@@ -20,7 +20,7 @@ use Rattle.decimal.proofs.Laying.{wrote-counts}
 use Rattle.text.specs.Reading.{Reading, unread, listed, reading}
 use Rattle.text.proofs.LineNumbers.{unread-most}
 use Rattle.report.specs.Report.{one, two, report}
-use Rattle.output.specs.Output.{longestStartup, longestCycle, clear, Reported, Output, Answered, longestOutput}
+use Rattle.output.specs.Output.{longestStartup, longestCycle, clear, Reported, Output, Printed, longestOutput}
 use Rattle.output.proofs.Room.{clear-length, permitted-limit}
 use Rattle.output.proofs.Counts.{latest-early, load-most}
 use Rattle.output.proofs.Plans.{plan-fits}
@@ -67,12 +67,12 @@ output-fits input output = go (reading input) refl
     go (listed p l) e x = reported-fits p l output x
 
 -- a buffer of that length gets every output whole
-pub answered-whole : (input buffer : List ℕ) (r : Written) (left : List ℕ) → longestOutput ≤ length buffer
-    → Answered (reading input) buffer r left → (n : ℕ) × (r ≡ Length n)
-answered-whole input buffer r left h x =
+pub printed-whole : (input buffer : List ℕ) (r : Written) (left : List ℕ) → longestOutput ≤ length buffer
+    → Printed (reading input) buffer r left → (n : ℕ) × (r ≡ Length n)
+printed-whole input buffer r left h x =
     let fits : length (x .output) ≤ length buffer = le-trans (output-fits input (x .output) (x .is-output)) h in
     (length (x .output), (simp (le-ltb (length buffer) (length (x .output)) fits) at (x .wrote)) .is-length)
 
 -- what is answered counts bytes of the buffer
-pub answered-counts : {reading : Reading} {buffer left : List ℕ} {r : Written} {n : ℕ} → Answered reading buffer r left → r ≡ Length n → n ≤ length left
-answered-counts {buffer} {left} {r} x e = wrote-counts (x .output) buffer r left (x .wrote) e
+pub printed-counts : {reading : Reading} {buffer left : List ℕ} {r : Written} {n : ℕ} → Printed reading buffer r left → r ≡ Length n → n ≤ length left
+printed-counts {buffer} {left} {r} x e = wrote-counts (x .output) buffer r left (x .wrote) e

@@ -11,7 +11,7 @@ use Rattle.decimal.specs.declared.Written.{Written}
 use Rattle.decimal.proofs.Pinned.{wrote-pinned}
 use Rattle.text.specs.Reading.{Reading, unread, listed}
 use Rattle.report.specs.Report.{report}
-use Rattle.output.specs.Output.{longestStartup, longestCycle, clear, Reported, Output, Answered}
+use Rattle.output.specs.Output.{longestStartup, longestCycle, clear, Reported, Output, Printed}
 
 reported-pinned : (p : Policy) (l : List Task) (a b : List ℕ) → Reported p l a → Reported p l b → a ≡ b
 reported-pinned p l a b x y =
@@ -26,8 +26,8 @@ pub output-pinned : (r : Reading) (a b : List ℕ) → Output r a → Output r b
 output-pinned (unread n) a b x y = x ∙ sym y
 output-pinned (listed p l) a b x y = reported-pinned p l a b x y
 
-pub answered-pinned : (reading : Reading) (buffer : List ℕ) (r r′ : Written) (left left′ : List ℕ) →
-    Answered reading buffer r left → Answered reading buffer r′ left′ → (r ≡ r′) × (left ≡ left′)
-answered-pinned reading buffer r r′ left left′ x y =
+pub printed-pinned : (reading : Reading) (buffer : List ℕ) (r r′ : Written) (left left′ : List ℕ) →
+    Printed reading buffer r left → Printed reading buffer r′ left′ → (r ≡ r′) × (left ≡ left′)
+printed-pinned reading buffer r r′ left left′ x y =
     let e = output-pinned reading (x .output) (y .output) (x .is-output) (y .is-output) in
     wrote-pinned (y .output) buffer r r′ left left′ (rw e at (x .wrote)) (y .wrote)

@@ -18,7 +18,7 @@ use Rattle.answer.proofs.Tables.{filled-cut}
 use Rattle.decimal.proofs.Decimal.{decimal-length}
 use Rattle.report.specs.Report.{slotsText, planText, report}
 use Rattle.output.specs.Output.{longestStartup, longestCycle}
-use Rattle.output.proofs.Counts.{count-most}
+use Rattle.schedule.proofs.Sums.{count-few}
 use Rattle.output.proofs.Entries.{table-fits}
 
 -- the printed numbers have at most five digits
@@ -59,12 +59,12 @@ module _ (p : Policy) (l : List Task) (startup cycle s c : List ℕ) (n : length
     hyperperiod-five = omega (arith, ok .short);
     load-five = omega (arith, x .room, ok .short);
     idle-five = (
-      omega (arith, count-most (λ t. isIdle (endless p l t)) 0 lead, lead-most),
-      omega (arith, count-most (λ t. isIdle (endless p l t)) lead (hyperperiod l), ok .short),
+      omega (arith, count-few (λ t. isIdle (endless p l t)) 0 lead, lead-most),
+      omega (arith, count-few (λ t. isIdle (endless p l t)) lead (hyperperiod l), ok .short),
     );
     preemptions-five = (
-      omega (arith, count-most (preempts l (endless p l)) 1 lead, lead-most),
-      omega (arith, count-most (preempts l (endless p l)) (suc lead) (hyperperiod l), ok .short),
+      omega (arith, count-few (preempts l (endless p l)) 1 lead, lead-most),
+      omega (arith, count-few (preempts l (endless p l)) (suc lead) (hyperperiod l), ok .short),
     );
   }
 

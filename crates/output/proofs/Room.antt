@@ -1,4 +1,4 @@
--- The buffers of a report have room for every list: none is refused for them, and each plan fits.
+-- The buffers of a report have room for every list: none is refused for them.
 use mathlib.Core.Path.{_≡_, subst, ap}
 use mathlib.Core.List.{List}
 use Prim.Native.Nat.{ℕ, _+_, _≤_}
@@ -24,14 +24,6 @@ module _ (p : Policy) (l : List Task) (startup cycle : List ℕ) (n : length sta
   pub permitted-limit : (number i : ℕ) (s c : List ℕ) → Permitted p l startup cycle (refused number i) s c → Limit number i
   permitted-limit number i s c x = refused-limit l (length startup) (length cycle) (omega arith) (omega arith) number i (x .first-refusal)
 
-  pub permitted-room : (q : Plan) (s c : List ℕ) → Permitted p l startup cycle (feasible q) s c →
-      (q .latest + q .hyperperiod ≤ longestStartup) × (q .hyperperiod ≤ longestCycle)
-  permitted-room q s c x =
-      let ok : Passed l (length startup) (length cycle) = passed l (length startup) (length cycle) (x .no-refusal) in
-      let M = ap (λ (q : Plan). q .latest) (x .is-plan) in
-      let H = ap (λ (q : Plan). q .hyperperiod) (x .is-plan) in
-      (omega (arith, M, H, ok .startup-fits), omega (arith, H, ok .cycle-fits))
-
 module _ (p : Policy) (l : List Task) (answer : Answer) (s c : List ℕ)
     (x : Promised p l (clear longestStartup) (clear longestCycle) answer s c) where
   permitted : (r : Row) → row answer ≡ r → Permitted p l (clear longestStartup) (clear longestCycle) r s c
@@ -42,7 +34,3 @@ module _ (p : Policy) (l : List Task) (answer : Answer) (s c : List ℕ)
       let y : Limit n i =
       permitted-limit p l (clear longestStartup) (clear longestCycle) (clear-length longestStartup) (clear-length longestCycle) n i s c (permitted (refused n i) e) in
       (λ e. omega arith, λ e. omega arith)
-
-  pub plan-room : (q : Plan) → row answer ≡ feasible q → (q .latest + q .hyperperiod ≤ longestStartup) × (q .hyperperiod ≤ longestCycle)
-  plan-room q e =
-      permitted-room p l (clear longestStartup) (clear longestCycle) (clear-length longestStartup) (clear-length longestCycle) q s c (permitted (feasible q) e)

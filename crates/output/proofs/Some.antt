@@ -1,7 +1,8 @@
--- Every input has an output.
+-- Every input has an output, and none is empty.
 use mathlib.Core.Path.{_≡_, refl, ap}
 use mathlib.Core.List.{List}
-use Prim.Native.Nat.{ℕ}
+use Prim.Native.Nat.{ℕ, _<_}
+use native.Mathlib.Omega.{arith}
 use lib.ListN.{length}
 use Rattle.task.specs.declared.Task.{Task}
 use Rattle.schedule.specs.declared.Policy.{Policy}
@@ -46,3 +47,14 @@ some-of (listed p l) = reported-some p l
 
 pub output-some : (input : List ℕ) → (output : List ℕ) × Output (reading input) output
 output-some input = some-of (reading input)
+
+-- no output is empty
+full-row : (r : Row) (s c : List ℕ) → 0 < length (report r s c)
+full-row (refused number i) s c = omega arith
+full-row (overloaded a b) s c = omega arith
+full-row (missed i d) s c = omega arith
+full-row (feasible q) s c = omega arith
+
+pub output-full : (r : Reading) (output : List ℕ) → Output r output → 0 < length output
+output-full (unread n) output e = rw e (omega arith)
+output-full (listed p l) output x = rw (x .is-report) (full-row (row (x .answer)) (x .startup) (x .cycle))

@@ -1,12 +1,11 @@
 -- What the reader hands back, as a reading again.
-use mathlib.Core.Path.{_≡_, refl, sym, _∙_, ap}
+use mathlib.Core.Path.{_≡_, sym, _∙_, ap}
 use mathlib.Core.List.{List}
 use Prim.Native.Nat.{ℕ}
 use Rattle.task.specs.declared.Task.{Task}
 use Rattle.task.specs.Arrays.{Holds}
 use Rattle.task.proofs.Copied.{held-array}
 use Rattle.schedule.specs.declared.Policy.{Policy}
-use Rattle.text.specs.declared.Found.{Found}
 use Rattle.text.specs.declared.Found.the-variants.{Unread, Listed}
 use Rattle.text.specs.declared.Contents.{Contents}
 use Rattle.text.specs.Held.{held}

@@ -1,10 +1,10 @@
 -- What is printed for an input. Request #101.
 use mathlib.Core.Path.{_≡_}
 use mathlib.Core.List.{List}
-use Prim.Native.Nat.{ℕ, _+_, _*_}
+use Prim.Native.Nat.{ℕ, _+_, _-_, _*_}
 use lib.ListN.{length, replicate}
 use Rattle.task.specs.declared.Task.{Task}
-use Rattle.task.specs.Limits.{latestOffset, longestHyperperiod}
+use Rattle.task.specs.Limits.{mostTasks, latestOffset, longestHyperperiod}
 use Rattle.schedule.specs.declared.Policy.{Policy}
 use Rattle.schedule.specs.Job.{idle}
 use Rattle.answer.specs.declared.Answer.{Answer}
@@ -15,7 +15,7 @@ use Rattle.decimal.specs.declared.Written.{Written}
 use Rattle.decimal.specs.Bytes.{bytes}
 use Rattle.decimal.specs.Laying.{Wrote}
 use Rattle.text.specs.Reading.{Reading, unread, listed}
-use Rattle.report.specs.Report.{one, report}
+use Rattle.report.specs.Report.{one, two, spaced, report}
 
 -- M is at most the latest offset, and H at most the longest hyperperiod: buffers for every list
 abbrev pub longestStartup : ℕ
@@ -41,14 +41,18 @@ Output (unread n) output = output ≡ one (bytes "unread") n
 Output (listed p l) output = Reported p l output
 
 -- the output for a reading, into a lent buffer
-pub record Answered (reading : Reading) (buffer : List ℕ) (r : Written) (left : List ℕ) : Type 0 where
+pub record Printed (reading : Reading) (buffer : List ℕ) (r : Written) (left : List ℕ) : Type 0 where
   pub output : List ℕ
   pub is-output : Output reading output
   pub wrote : Wrote output buffer r left
 
--- the longest output that there is: each line at its longest, with a task of two digits in every slot (`output-fits`)
+-- the longest output that there is: each line at its longest, with the last task in every slot (`output-fits`)
 abbrev pub longestOutput : ℕ
 longestOutput =
-    length (bytes "feasible\nhyperperiod 16384\nload 16384\nidle 32768 16384\npreemptions 32768 16384\n")
-    + (length (bytes "first\n") + length (bytes " 15") * longestStartup)
-    + (length (bytes "again\n") + length (bytes " 15") * longestCycle)
+    length (bytes "feasible\n")
+    + length (one (bytes "hyperperiod") longestHyperperiod)
+    + length (one (bytes "load") longestHyperperiod)
+    + length (two (bytes "idle") longestStartup longestCycle)
+    + length (two (bytes "preemptions") longestStartup longestCycle)
+    + (length (bytes "first\n") + length (spaced (mostTasks - 1)) * longestStartup)
+    + (length (bytes "again\n") + length (spaced (mostTasks - 1)) * longestCycle)

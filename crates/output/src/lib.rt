@@ -4,7 +4,7 @@ ghost use mathlib.Core.List.{List};
 ghost use Rattle.task.specs.declared.Task.{Task};
 ghost use Rattle.task.specs.Arrays.{Holds};
 ghost use Rattle.text.specs.Reading.{reading, unread, listed};
-ghost use Rattle.output.specs.Output.{Answered, longestStartup, longestCycle, longestOutput};
+ghost use Rattle.output.specs.Output.{Printed, longestStartup, longestCycle, longestOutput};
 use answer::IDLE;
 use decimal::Written;
 use report::lay;
@@ -23,7 +23,7 @@ pub const LONGEST_OUTPUT: usize = 147_547;
 
 // Reads an input, checks the list, and writes the output.
 pub fn answer(input: &[u8], out: &mut [u8]) -> Written
-    ensures { λ r. ⌜ Answered (reading (now (input .entry))) (now (out .entry)) r (now (out .exit)) ⌝ }
+    ensures { λ r. ⌜ Printed (reading (now (input .entry))) (now (out .entry)) r (now (out .exit)) ⌝ }
 {
     let read = text::read(input);
     let tasks = read.tasks;
@@ -35,7 +35,7 @@ pub fn answer(input: &[u8], out: &mut [u8]) -> Written
 }
 
 fn checked(list: Tasks, policy: Policy, out: &mut [u8]) -> Written
-    ensures { λ r. ⌜ ((l : List Task) → Holds list l → Answered (listed policy l) (now (out .entry)) r (now (out .exit))) ⌝ }
+    ensures { λ r. ⌜ ((l : List Task) → Holds list l → Printed (listed policy l) (now (out .entry)) r (now (out .exit))) ⌝ }
 {
     let mut startup = [IDLE; STARTUP];
     let mut cycle = [IDLE; CYCLE];
@@ -44,7 +44,7 @@ fn checked(list: Tasks, policy: Policy, out: &mut [u8]) -> Written
 }
 
 fn unread(line: usize, out: &mut [u8]) -> Written
-    ensures { λ r. ⌜ Answered (unread line) (now (out .entry)) r (now (out .exit)) ⌝ }
+    ensures { λ r. ⌜ Printed (unread line) (now (out .entry)) r (now (out .exit)) ⌝ }
 {
     let n = lay::one(b"unread", line, &mut [0u8; 0], 0);
     if out.len() < n {

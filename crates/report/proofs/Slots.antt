@@ -1,14 +1,14 @@
 -- The slots of a table, entry by entry, with the newline at the end.
 use mathlib.Core.Path.{_≡_, refl, sym, _∙_, ap}
 use mathlib.Core.List.{List, [], _∷_, _++_, append-assoc, append-nil}
-use Prim.Native.Nat.{ℕ, suc, _+_, _≤_, _<_, min}
+use Prim.Native.Nat.{ℕ, _+_, _≤_, _<_, min}
 use native.Mathlib.Omega.{arith}
 use native.Mathlib.Decide.{decLe}
 use native.Mathlib.Numerals.{add-one}
 use lib.ListN.{length, take, getD}
 use lib.Seq.{take-suc, take-all}
 use Rattle.decimal.specs.Bytes.{newline}
-use Rattle.decimal.specs.Laying.{largest}
+use Rattle.task.specs.Limits.{largest}
 use Rattle.report.specs.Report.{spaced, slotsText}
 
 abbrev pub entries : List ℕ → List ℕ

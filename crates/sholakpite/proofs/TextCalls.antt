@@ -7,9 +7,9 @@ use lib.Dec.{ltb}
 use Rattle.schedule.specs.declared.Policy.{Policy}
 use Rattle.text.specs.Reading.{reading}
 use Rattle.writer.specs.declared.Saved.{Saved}
-use Rattle.writer.specs.Writing.{SavedAs, numberOf}
+use Rattle.writer.specs.Writing.{SavedAs, savedNumber}
 use Rattle.writer.proofs.Pinned.{saved-pinned}
-use Rattle.output.proofs.Pinned.{answered-pinned}
+use Rattle.output.proofs.Pinned.{printed-pinned}
 use Rattle.words.specs.Words.{policyOf, tasksOf, lastPolicy, ragged}
 use Rattle.sholakpite.specs.Texts.{lengthOf, AnsweredText, eitherText, WrittenText}
 
@@ -17,7 +17,7 @@ use Rattle.sholakpite.specs.Texts.{lengthOf, AnsweredText, eitherText, W
 pub answer-text-pinned : (input buffer : List ℕ) (n n′ : ℕ) (left left′ : List ℕ) →
     AnsweredText input buffer n left → AnsweredText input buffer n′ left′ → (n ≡ n′) × (left ≡ left′)
 answer-text-pinned input buffer n n′ left left′ x y =
-    let e = answered-pinned (reading input) buffer (x .written) (y .written) left left′ (x .answered) (y .answered) in
+    let e = printed-pinned (reading input) buffer (x .written) (y .written) left left′ (x .printed) (y .printed) in
     (x .is-length ∙ ap lengthOf (e .0) ∙ sym (y .is-length), e .1)
 
 module _ (policy : ℕ) (list buffer : List ℕ) where
@@ -26,7 +26,7 @@ module _ (policy : ℕ) (list buffer : List ℕ) where
   text-not-understood false e = absurd (true≢false (sym e))
 
   pub text-understood : (b : Bool) → b ≡ false → (p : Policy) (s : Saved) (n : ℕ) (left : List ℕ) → p ≡ policyOf policy →
-      SavedAs p (tasksOf list) buffer s left → n ≡ numberOf s → eitherText policy list buffer b n left
+      SavedAs p (tasksOf list) buffer s left → n ≡ savedNumber s → eitherText policy list buffer b n left
   text-understood true e p s n left is-policy x is-number = absurd (true≢false e)
   text-understood false e p s n left is-policy x is-number =
       let y : SavedAs (policyOf policy) (tasksOf list) buffer s left = rw is-policy at x in
@@ -41,4 +41,4 @@ module _ (policy : ℕ) (list buffer : List ℕ) where
       go true x y = (x .is-code ∙ sym (y .is-code), x .kept ∙ sym (y .kept))
       go false x y =
           let e = saved-pinned (policyOf policy) (tasksOf list) buffer (x .saved) (y .saved) left left′ (x .saved-as) (y .saved-as) in
-          (x .is-number ∙ ap numberOf (e .0) ∙ sym (y .is-number), e .1)
+          (x .is-number ∙ ap savedNumber (e .0) ∙ sym (y .is-number), e .1)

@@ -8,11 +8,11 @@ use Rattle.decimal.specs.declared.Written.{Written}
 use Rattle.decimal.specs.declared.Written.the-variants.{Length, Short}
 use Rattle.text.specs.Reading.{reading}
 use Rattle.writer.specs.declared.Saved.{Saved}
-use Rattle.writer.specs.Writing.{SavedAs, numberOf}
-use Rattle.output.specs.Output.{Answered}
+use Rattle.writer.specs.Writing.{SavedAs, savedNumber}
+use Rattle.output.specs.Output.{Printed}
 use Rattle.words.specs.Words.{policyOf, tasksOf, lastPolicy, ragged}
 
--- the output's length, or 0 for a buffer that is shorter: no output is empty
+-- the output's length, or 0 for a buffer that is shorter: no output is empty (`output-full`)
 abbrev pub lengthOf : Written → ℕ
 lengthOf (Length n) = n
 lengthOf Short = 0
@@ -20,7 +20,7 @@ lengthOf Short = 0
 -- `buffer` is as it was lent, `left` as it is left, n what is answered
 pub record AnsweredText (input buffer : List ℕ) (n : ℕ) (left : List ℕ) : Type 0 where
   pub written : Written
-  pub answered : Answered (reading input) buffer written left
+  pub printed : Printed (reading input) buffer written left
   pub is-length : n ≡ lengthOf written
 
 module _ (policy : ℕ) (list buffer : List ℕ) where
@@ -32,7 +32,7 @@ module _ (policy : ℕ) (list buffer : List ℕ) where
   pub record Understood (n : ℕ) (left : List ℕ) : Type 0 where
     pub saved : Saved
     pub saved-as : SavedAs (policyOf policy) (tasksOf list) buffer saved left
-    pub is-number : n ≡ numberOf saved
+    pub is-number : n ≡ savedNumber saved
 
   abbrev pub eitherText : Bool → ℕ → List ℕ → Type 0
   eitherText true n left = NotUnderstood n left

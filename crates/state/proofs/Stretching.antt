@@ -1,8 +1,7 @@
 -- A stretch of slots, slot by slot: the laws that the engine's loop cites.
 use mathlib.Core.Path.{_≡_, refl, ap, _∙_}
 use mathlib.Core.List.{List}
-use mathlib.Core.Bool.{Bool, true, false}
-use Prim.Native.Nat.{ℕ, zero, suc, _+_, _-_, _≤_, _<_}
+use Prim.Native.Nat.{ℕ, suc, _+_, _-_, _≤_, _<_}
 use native.Mathlib.Nat.{add-zero, suc-add}
 use native.Mathlib.Numerals.{add-one}
 use native.Mathlib.Omega.{arith}
@@ -11,17 +10,10 @@ use Rattle.task.specs.declared.Task.{Task}
 use Rattle.schedule.specs.declared.Policy.{Policy}
 use Rattle.schedule.specs.Job.{isIdle, one-if, count}
 use Rattle.schedule.specs.Endless.{endless}
+use Rattle.schedule.proofs.Sums.{count-few}
 use Rattle.answer.specs.Tables.{byteOf, filled, preempts}
 use Rattle.answer.proofs.Tables.{slots-length, filled-next}
 use Rattle.state.specs.Engine.{Instant, Stepped, Stretched}
-
-one-few : (b : Bool) → one-if b ≤ 1
-one-few true = omega arith
-one-few false = omega arith
-
-count-few : (test : ℕ → Bool) (t n : ℕ) → count test t n ≤ n
-count-few test t zero = omega arith
-count-few test t (suc n) = omega (arith, count-few test t n, one-few (test (t + n)))
 
 -- k slots from t on are given
 pub record Given (p : Policy) (l : List Task) (t k : ℕ) (table table′ : List ℕ) (idle preemptions : ℕ) (owed next dues keys : List ℕ)

@@ -1,5 +1,5 @@
 -- The lines of a text, one after the other: what the loop knows at each.
-use mathlib.Core.Path.{_≡_, refl, sym, _∙_, ap}
+use mathlib.Core.Path.{_≡_, refl, _∙_, ap}
 use mathlib.Core.List.{List, [], _∷_, _++_}
 use Prim.Native.Nat.{ℕ, suc, _+_, _-_, _≤_, _<_}
 use native.Mathlib.Omega.{arith}
@@ -19,8 +19,8 @@ use Rattle.line.specs.declared.Line.{Line}
 use Rattle.line.specs.Lines.{parts}
 use Rattle.line.specs.Places.{until}
 use Rattle.line.specs.Kinds.{lineOf, firstOf}
-use Rattle.text.specs.Reading.{Reading, mostBytes, reading, unread, listed, withTask, tasksOn, withPolicy, linesOf}
-use Rattle.line.proofs.Places.{rest-is, behind, parts-until, behind-none, behind-mark, until-inside}
+use Rattle.text.specs.Reading.{mostBytes, reading, unread, listed, withTask, tasksOn, withPolicy, linesOf}
+use Rattle.line.proofs.Places.{rest-is, behind, parts-until, behind-none, behind-mark}
 
 module _ (p : Policy) (l : List Task) (n : ℕ) where
   -- a whole line, and the lines after it: there is always a part after a newline

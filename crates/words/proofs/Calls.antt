@@ -3,7 +3,12 @@ use mathlib.Core.Path.{_≡_, refl, sym, ap, _∙_}
 use mathlib.Core.Bool.{Bool, true, false, _||_, true≢false}
 use mathlib.Core.List.{List}
 use Prim.Native.Nat.{ℕ}
+use lib.ListN.{length}
 use Rattle.task.specs.declared.Task.{Task}
+use Rattle.task.specs.declared.list.Tasks.{Tasks}
+use Rattle.task.specs.Limits.{mostTasks}
+use Rattle.task.specs.Arrays.{Holds}
+use Rattle.task.proofs.Held.{held}
 use Rattle.schedule.specs.declared.Policy.{Policy}
 use Rattle.answer.specs.declared.Answer.{Answer}
 use Rattle.answer.specs.Answers.{row}
@@ -64,3 +69,12 @@ pub words-pinned : (policy : ℕ) (list startup cycle words : List ℕ) (n n′ 
     (n ≡ n′) × (s ≡ s′) × (c ≡ c′) × (w ≡ w′)
 words-pinned policy list startup cycle words n n′ s c w s′ c′ w′ =
     either-pinned policy (tasksOf list) startup cycle words n n′ s c w s′ c′ w′ (ragged list || misread policy words)
+
+-- `answered` has one outcome: the array holds a list, and for that list there is one
+pub answered-pinned : (ts : Tasks) → length (ts .items) ≡ mostTasks → (policy : ℕ) (startup cycle words : List ℕ) (n n′ : ℕ) (s c w s′ c′ w′ : List ℕ) →
+    ((l : List Task) → Holds ts l → Answered policy l startup cycle words n s c w) →
+    ((l : List Task) → Holds ts l → Answered policy l startup cycle words n′ s′ c′ w′) → (n ≡ n′) × (s ≡ s′) × (c ≡ c′) × (w ≡ w′)
+answered-pinned ts full policy startup cycle words n n′ s c w s′ c′ w′ x y = of-list _ (held ts full)
+  where
+    of-list : (l : List Task) → Holds ts l → (n ≡ n′) × (s ≡ s′) × (c ≡ c′) × (w ≡ w′)
+    of-list l h = tasks-pinned policy l startup cycle words n n′ s c w s′ c′ w′ (x l h) (y l h)

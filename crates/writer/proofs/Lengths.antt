@@ -51,6 +51,10 @@ text-length p l e =
     let both = neither (ltb mostTasks (length l)) (anyLarge l) e in
     rw length-append (omega (arith, policy-length p, most-tasks l (both .1), ltb-false mostTasks (length l) (both .0)))
 
+-- so the code of a call that is not understood is no length either
+pub text-least : (p : Policy) (l : List Task) → 10 ≤ length (text p l)
+text-least p l = simp length-append (omega (arith, policy-length p))
+
 -- the length is never the number of a refusal: 10 to 12 bytes without tasks, at least 23 with one
 pub never-13 : (p : Policy) (l : List Task) → length (text p l) ≡ 13 → ⊥
 never-13 p [] e = omega (arith, policy-length p, rw length-append at e)

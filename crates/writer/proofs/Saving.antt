@@ -1,18 +1,18 @@
 -- The writer's answer: the three cases of a refusal, and the text.
-use mathlib.Core.Path.{_≡_, refl, sym, _∙_, ap}
+use mathlib.Core.Path.{_≡_, refl, _∙_, ap}
 use mathlib.Core.Bool.{true, false}
-use mathlib.Core.List.{List, [], _++_}
+use mathlib.Core.List.{List, []}
 use Prim.Native.Nat.{ℕ, _≤_, _<_}
 use native.Mathlib.Omega.{arith}
-use lib.ListN.{length, take, drop}
+use lib.ListN.{length, take}
 use lib.Seq.{take-all}
 use borrow.Author.Tests.{lt-ltb, le-ltb}
 use Rattle.task.specs.declared.Task.{Task}
 use Rattle.task.specs.declared.list.Tasks.{Tasks}
-use Rattle.task.specs.Limits.{mostTasks}
+use Rattle.task.specs.Limits.{largest, mostTasks}
 use Rattle.task.specs.Arrays.{Holds}
 use Rattle.schedule.specs.declared.Policy.{Policy}
-use Rattle.decimal.specs.Laying.{Laid, largest}
+use Rattle.decimal.specs.Laying.{Laid}
 use Rattle.decimal.proofs.Laying.{laid-whole, is-short, is-room}
 use Rattle.writer.specs.declared.Saved.the-variants.{Length, Refused}
 use Rattle.writer.specs.Writing.{text, anyLarge, SavedAs}

@@ -40,9 +40,9 @@ abbrev pub unwritable : List Task → Bool
 unwritable l = ltb mostTasks (length l) || anyLarge l
 
 -- the writer's answer as the request writes it: the length, or 13
-abbrev pub numberOf : Saved → ℕ
-numberOf (Length n) = n
-numberOf Refused = 13
+abbrev pub savedNumber : Saved → ℕ
+savedNumber (Length n) = n
+savedNumber Refused = 13
 
 -- `buffer` is as it was lent, `left` as it is left
 module _ (p : Policy) (l : List Task) (buffer : List ℕ) (r : Saved) (left : List ℕ) where

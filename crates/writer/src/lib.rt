@@ -5,7 +5,7 @@ ghost use mathlib.Core.Path.{_≡_};
 ghost use mathlib.Core.List.{List};
 ghost use Rattle.task.specs.declared.Task.{Task};
 ghost use Rattle.task.specs.Arrays.{Holds};
-ghost use Rattle.writer.specs.Writing.{SavedAs, numberOf};
+ghost use Rattle.writer.specs.Writing.{SavedAs, savedNumber};
 use schedule::Policy;
 use task::Task;
 use task::list::Tasks;
@@ -19,7 +19,7 @@ pub enum Saved {
 impl Saved {
     // The length, or the request's number.
     pub fn number(self) -> usize
-        ensures { λ r. ⌜ r ≡ numberOf self ⌝ }
+        ensures { λ r. ⌜ r ≡ savedNumber self ⌝ }
     {
         match self {
             Saved::Length(n) => n,

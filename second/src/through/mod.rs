@@ -6,12 +6,15 @@ mod frame;
 
 use crate::arguments::Arguments;
 use crate::findings::{conclude, timed, Findings};
+use crate::paper::MOST_TASKS;
 use crate::random::Random;
 use crate::text::files::{self, File};
 use crate::text::inputs::Input;
+use crate::text::reader;
 use crate::text::report::{self, Output};
 use crate::text::tally::Tally;
 use crate::text::{self, tell, tell_input};
+use answers::Answers;
 use command::Started;
 use std::process::ExitCode;
 
@@ -46,10 +49,8 @@ fn run_files(command: &[String], arguments: &Arguments) -> bool {
     let ended = Started::start(command, requests, cut).and_then(|started| {
         started.each(|file: File, answers| {
             let output = report::output(&file.text);
-            let answer = answers
-                .next()
+            let mut found = take(answers, &file.text, &output)
                 .map_err(|why| format!("{}: {why}", file.name))?;
-            let mut found = differences(&output, &answer);
             if !file.allows(&output.bytes) {
                 found.push("second prints another output than is expected".to_string());
             }
@@ -62,7 +63,7 @@ fn run_files(command: &[String], arguments: &Arguments) -> bool {
         })
     });
     println!("the lists of lists/: {answered} of {count} compared, {failures} failures");
-    all_answered(ended) && failures == 0
+    all_answered(ended) && failures == 0 && count > 0
 }
 
 /// Random texts and their counts; true when all agree and nothing is missing.
@@ -83,10 +84,8 @@ fn run_texts(command: &[String], arguments: &Arguments) -> bool {
             if say {
                 eprintln!("{told}");
             }
-            let answer = answers
-                .next()
+            let mut found = take(answers, &input.bytes, &output)
                 .map_err(|why| format!("text {number}: {why}"))?;
-            let mut found = differences(&output, &answer);
             if !found.is_empty() {
                 found.insert(0, told);
             }
@@ -117,14 +116,30 @@ fn all_answered(ended: Result<(), String>) -> bool {
     ended.is_ok()
 }
 
-/// What differs, claims of the paper that our own walk breaks included.
-fn differences(output: &Output, answer: &[u8]) -> Vec<String> {
+/// The answer to a text, in its two parts, and what differs; claims of the paper that our own walk breaks included.
+fn take(answers: &mut Answers, input: &[u8], output: &Output) -> Result<Vec<String>, String> {
     let mut found = output.broken();
-    if answer != output.bytes {
-        let same = output.bytes.iter().zip(answer).take_while(|(a, b)| a == b);
-        let place = same.count();
-        found.push(format!("answer: {}", tell(answer)));
-        found.push(format!("first different output byte {place}"));
+    found.extend(difference("output", &output.bytes, &answers.next()?));
+    found.extend(difference("text", rewritten(input), &answers.next()?));
+    Ok(found)
+}
+
+/// A list has one text, so what is read from one and written again is the input; nothing where it is refused.
+fn rewritten(input: &[u8]) -> &[u8] {
+    match reader::read(input) {
+        Ok(told) if told.tasks.len() <= MOST_TASKS => input,
+        _ => b"",
     }
-    found
+}
+
+fn difference(name: &str, ours: &[u8], theirs: &[u8]) -> Vec<String> {
+    if ours == theirs {
+        return Vec::new();
+    }
+    let same = ours.iter().zip(theirs).take_while(|(a, b)| a == b);
+    let place = same.count();
+    vec![
+        format!("{name}: {}", tell(theirs)),
+        format!("first different {name} byte {place}"),
+    ]
 }

@@ -2,7 +2,7 @@
 use mathlib.Core.Path.{sym}
 use lib.Seq.{length-take-le}
 use borrow.Author.Needs.{needs}
-use Rattle.output.proofs.Longest.{answered-counts}
+use Rattle.output.proofs.Longest.{printed-counts}
 use Rattle.check_list.proofs.say.Statement.{statement}
 use Rattle.check_list.proofs.say.Tie as tie
 
@@ -18,7 +18,7 @@ enum-known-n c = search needs
 array-share-prefix-out : tie.Need-array-share-prefix-out
 array-share-prefix-out c =
     let a = c .before .before .before .before in
-    answered-counts (a .answer .ensures) (c .before .n .given .1)
+    printed-counts (a .answer .ensures) (c .before .n .given .1)
 
 slice-aggregate-write-all : tie.Need-slice-aggregate-write-all
 slice-aggregate-write-all c =

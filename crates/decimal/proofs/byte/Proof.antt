@@ -1,5 +1,5 @@
 -- `byte` meets its contract: a place that the buffer has gets the byte, another nothing.
-use mathlib.Core.Path.{_≡_, refl, sym, _∙_}
+use mathlib.Core.Path.{sym, _∙_}
 use native.Mathlib.Omega.{arith}
 use lib.Seq.{set-out}
 use borrow.Author.Needs.{needs}

@@ -2,9 +2,6 @@
 use borrow.Author.Needs.{needs}
 use Rattle.line.proofs.policy_of.Statement.{statement}
 use Rattle.line.proofs.policy_of.Tie as tie
-use Rattle.line.proofs.policy_of.Reads as reads
-use Rattle.line.proofs.policy_of.Lts as lts
-use Rattle.line.proofs.field.same.Reads as same-reads
 
 slice-aggregate-same : tie.Need-slice-aggregate-same
 slice-aggregate-same c = search needs

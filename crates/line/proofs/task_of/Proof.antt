@@ -7,11 +7,10 @@ use borrow.Author.Needs.{needs}
 use borrow.Author.Tests.{not-true, not-false}
 use Rattle.decimal.specs.Bytes.{space}
 use Rattle.task.specs.Tasks.{taskOf}
-use Rattle.line.specs.declared.Line.{Line}
 use Rattle.line.specs.declared.Line.the-variants.{Task as taskLine}
 use Rattle.line.specs.Places.{fieldAt}
 use Rattle.line.specs.Kinds.{last, lineOf}
-use Rattle.line.proofs.Places.{until-taken, behind, behind-none, behind-mark, parts-until}
+use Rattle.line.proofs.Places.{until-taken, behind}
 use Rattle.line.proofs.Fields.{byField, line-fields, line-not, last-none, last-more}
 use Rattle.line.proofs.task_of.Statement.{statement}
 use Rattle.line.proofs.task_of.Tie as tie

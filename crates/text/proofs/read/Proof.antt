@@ -1,14 +1,10 @@
 -- `read` meets its contract: the length is looked at first.
-use mathlib.Core.Path.{_≡_, sym, _∙_, ap}
+use mathlib.Core.Path.{sym, _∙_, ap}
 use borrow.Author.Needs.{needs}
 use Rattle.text.specs.Held.{held}
 use Rattle.text.proofs.Reading.{too-long, not-long}
 use Rattle.text.proofs.read.Statement.{statement}
 use Rattle.text.proofs.read.Tie as tie
-use Rattle.text.proofs.read.Reads as reads
-use Rattle.text.proofs.read.Lts as lts
-use Rattle.text.proofs.lines.Reads as lines-reads
-use Rattle.text.proofs.unread.Reads as unread-reads
 
 unread-requires : tie.Need-unread-requires
 unread-requires c κs = search needs

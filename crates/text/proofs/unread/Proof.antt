@@ -1,9 +1,7 @@
+-- `unread` meets its contract: the line, and no list.
 use borrow.Author.Needs.{needs}
 use Rattle.text.proofs.unread.Statement.{statement}
 use Rattle.text.proofs.unread.Tie as tie
-use Rattle.text.proofs.unread.Reads as reads
-use Rattle.text.proofs.unread.Lts as lts
-use Rattle.task.proofs.list.Tasks.none.Reads as none-reads
 
 none-requires : tie.Need-none-requires
 none-requires c κs = search needs

@@ -1,8 +1,8 @@
 -- `before` meets its contract: no byte so far is the mark.
-use mathlib.Core.Path.{_≡_, sym, _∙_}
+use mathlib.Core.Path.{_≡_}
 use Prim.Native.Nat.{_+_, _-_, _≤_}
 use native.Mathlib.Omega.{arith}
-use lib.ListN.{length, drop, getD}
+use lib.ListN.{length, drop}
 use borrow.Author.Needs.{needs}
 use Rattle.line.specs.Places.{until}
 use Rattle.line.proofs.Places.{until-found, until-past, until-end}

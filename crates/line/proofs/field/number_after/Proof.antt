@@ -11,10 +11,6 @@ use Rattle.line.proofs.Places.{until-taken, until-inside}
 use Rattle.line.proofs.Fields.{field-none, field-is}
 use Rattle.line.proofs.field.number_after.Statement.{statement}
 use Rattle.line.proofs.field.number_after.Tie as tie
-use Rattle.line.proofs.field.number_after.Reads as reads
-use Rattle.line.proofs.field.number_after.Lts as lts
-use Rattle.line.proofs.field.before.Reads as before-reads
-use Rattle.line.proofs.number.value_of.Reads as value-of-reads
 
 returns : tie.Need-returns
 returns c = sym (field-none (c .before .before .args .line .now) (c .before .before .args .at) (c .if1 .taken))

@@ -7,9 +7,6 @@ use Rattle.decimal.specs.Decimal.{nought}
 use Rattle.line.proofs.Digits.{of-none, of-one, of-more}
 use Rattle.line.proofs.number.value_of.Statement.{statement}
 use Rattle.line.proofs.number.value_of.Tie as tie
-use Rattle.line.proofs.number.value_of.Reads as reads
-use Rattle.line.proofs.number.value_of.Lts as lts
-use Rattle.line.proofs.number.digits.Reads as digits-reads
 
 returns : tie.Need-returns
 returns c = sym (of-none (c .before .before .args .field .now) (c .if1 .taken))

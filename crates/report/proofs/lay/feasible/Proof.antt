@@ -1,12 +1,11 @@
 -- `feasible` meets its contract: line after line.
-use mathlib.Core.Path.{_≡_, sym, _∙_, ap}
-use mathlib.Core.List.{List}
+use mathlib.Core.Path.{_≡_, _∙_, ap}
 use Prim.Native.Nat.{ℕ, _+_, _≤_}
 use native.Mathlib.Omega.{arith}
 use lib.ListN.{length, take}
 use borrow.Author.Needs.{needs}
 use Rattle.decimal.specs.Bytes.{bytes}
-use Rattle.decimal.specs.Laying.{largest}
+use Rattle.task.specs.Limits.{largest}
 use Rattle.decimal.proofs.Laying.{laid-both, laid-as, laid-length}
 use Rattle.report.specs.Report.{table}
 use Rattle.report.proofs.Slots.{take-cut}

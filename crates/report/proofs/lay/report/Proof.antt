@@ -1,5 +1,4 @@
 -- `report` meets its contract, answer by answer.
-use mathlib.Core.Path.{sym}
 use borrow.Author.Needs.{needs}
 use Rattle.report.proofs.lay.report.Statement.{statement}
 use Rattle.report.proofs.lay.report.Tie as tie

@@ -1,11 +1,12 @@
 -- `table` meets its contract: the name, entry after entry, and a newline.
-use mathlib.Core.Path.{_≡_, ap}
+use mathlib.Core.Path.{_≡_}
 use Prim.Native.Nat.{_-_, _≤_}
 use native.Mathlib.Omega.{arith}
 use lib.ListN.{length, take}
 use lib.Seq.{take-all}
 use borrow.Author.Needs.{needs}
-use Rattle.decimal.specs.Laying.{Laid, largest}
+use Rattle.task.specs.Limits.{largest}
+use Rattle.decimal.specs.Laying.{Laid}
 use Rattle.decimal.proofs.Laying.{laid-none, laid-both, laid-length}
 use Rattle.report.proofs.Slots.{entries, entries-next, entries-end}
 use Rattle.report.proofs.lay.table.Statement.{statement}

@@ -3,7 +3,7 @@ use Prim.Native.Nat.{_≤_}
 use native.Mathlib.Omega.{arith}
 use lib.ListN.{length}
 use borrow.Author.Needs.{needs}
-use Rattle.decimal.specs.Laying.{largest}
+use Rattle.task.specs.Limits.{largest}
 use Rattle.decimal.proofs.Laying.{laid-both, laid-length}
 use Rattle.report.proofs.lay.two.Statement.{statement}
 use Rattle.report.proofs.lay.two.Tie as tie

@@ -20,7 +20,7 @@ same-length c = search needs
 returns : tie.Need-returns
 returns c =
     let a = c .before .before .before .before .before in
-    record { written = a .answer .result; answered = a .answer .ensures; is-length = sym (ap lengthOf (c .before .n .given .1)) }
+    record { written = a .answer .result; printed = a .answer .ensures; is-length = sym (ap lengthOf (c .before .n .given .1)) }
 
 same-length-2 : tie.Need-same-length-2
 same-length-2 c = search needs
@@ -28,7 +28,7 @@ same-length-2 c = search needs
 returns-2 : tie.Need-returns-2
 returns-2 c =
     let a = c .before .before .before .before in
-    record { written = a .answer .result; answered = a .answer .ensures; is-length = sym (ap lengthOf (c .enum-told .given .1)) }
+    record { written = a .answer .result; printed = a .answer .ensures; is-length = sym (ap lengthOf (c .enum-told .given .1)) }
 
 pub sholakpite-answer-spec : {M : Type 1} → statement M
 sholakpite-answer-spec =

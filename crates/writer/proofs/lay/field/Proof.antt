@@ -1,7 +1,7 @@
 -- `field` meets its contract: a space, and the number.
 use native.Mathlib.Omega.{arith}
 use borrow.Author.Needs.{needs}
-use Rattle.decimal.proofs.Laying.{laid-both, laid-length}
+use Rattle.decimal.proofs.Laying.{laid-both}
 use Rattle.writer.proofs.lay.field.Statement.{statement}
 use Rattle.writer.proofs.lay.field.Tie as tie
 

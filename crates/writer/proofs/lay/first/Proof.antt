@@ -1,6 +1,5 @@
 -- `first` meets its contract, policy by policy.
 use borrow.Author.Needs.{needs}
-use Rattle.decimal.proofs.Laying.{laid-length}
 use Rattle.writer.proofs.lay.first.Statement.{statement}
 use Rattle.writer.proofs.lay.first.Tie as tie
 

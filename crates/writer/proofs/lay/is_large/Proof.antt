@@ -1,5 +1,4 @@
 -- `is_large` meets its contract: the first number that is above the limit.
-use mathlib.Core.Path.{sym}
 use borrow.Author.Tests.{lt-ltb, le-ltb}
 use Rattle.line.specs.Lines.{largestNumber}
 use Rattle.writer.proofs.lay.is_large.Statement.{statement}

@@ -3,8 +3,8 @@ use Prim.Native.Nat.{_≤_}
 use native.Mathlib.Omega.{arith}
 use lib.ListN.{length}
 use borrow.Author.Needs.{needs}
-use Rattle.decimal.specs.Laying.{largest}
-use Rattle.decimal.proofs.Laying.{laid-both, laid-length}
+use Rattle.task.specs.Limits.{largest}
+use Rattle.decimal.proofs.Laying.{laid-both}
 use Rattle.writer.proofs.lay.task.Statement.{statement}
 use Rattle.writer.proofs.lay.task.Tie as tie
 

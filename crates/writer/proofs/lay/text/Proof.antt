@@ -1,8 +1,8 @@
 -- `text` meets its contract: the first line, and task after task.
-use mathlib.Core.Path.{_≡_, refl, sym, _∙_}
+use mathlib.Core.Path.{_≡_}
 use Prim.Native.Nat.{_-_, _≤_}
 use native.Mathlib.Omega.{arith}
-use lib.ListN.{take, length}
+use lib.ListN.{take}
 use lib.Seq.{append-snoc}
 use borrow.Author.Needs.{needs}
 use Rattle.decimal.specs.Laying.{Laid}
