@@ -1,16 +1,14 @@
 -- The buffers of a report have room for every list: none is refused for them.
-use mathlib.Core.Path.{_≡_, subst, ap}
+use mathlib.Core.Path.{_≡_, subst}
 use mathlib.Core.List.{List}
-use Prim.Native.Nat.{ℕ, _+_, _≤_}
+use Prim.Native.Nat.{ℕ}
 use native.Mathlib.Omega.{arith}
 use lib.ListN.{length, length-replicate}
 use Rattle.task.specs.declared.Task.{Task}
-use Rattle.task.proofs.Refusing.{Passed, passed}
 use Rattle.schedule.specs.declared.Policy.{Policy}
 use Rattle.schedule.specs.Job.{idle}
-use Rattle.answer.specs.declared.Plan.{Plan}
 use Rattle.answer.specs.declared.Answer.{Answer}
-use Rattle.answer.specs.Answers.{row, Row, refused, feasible}
+use Rattle.answer.specs.Answers.{row, Row, refused}
 use Rattle.answer.specs.Tables.{byteOf}
 use Rattle.answer.specs.Promise.{Permitted, Promised}
 use Rattle.output.specs.Output.{longestStartup, longestCycle, clear}
