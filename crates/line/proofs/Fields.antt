@@ -1,5 +1,5 @@
 -- A line's fields, one after the other: what each call of `number_after` says of those that are left.
-use mathlib.Core.Path.{_≡_, refl, _∙_}
+use mathlib.Core.Path.{_≡_, refl, sym, _∙_, ap}
 use mathlib.Core.Bool.{true, false}
 use mathlib.Core.List.{List}
 use Prim.Native.Nat.{ℕ, suc, _+_, _-_, _≤_, _<_}
@@ -57,10 +57,29 @@ next-field line at rest = elim (decLt at (length line)) [
     by-number Not end = refl
     by-number (Of v) end = refl
 
+-- the field that was found, or that there is none
+module _ (line : List ℕ) (at : ℕ) (f : Field) (is-field : f ≡ fieldAt line at) (rest : ℕ → ℕ → Line) where
+  pub found : (v end : ℕ) → f ≡ Ends v end → byField (fieldAt line at) rest ≡ rest v end
+  found v end e = ap (λ (g : Field). byField g rest) (sym is-field ∙ e)
+
+  pub not-found : f ≡ Unread → byField (fieldAt line at) rest ≡ noTaskLine
+  not-found e = ap (λ (g : Field). byField g rest) (sym is-field ∙ e)
+
+-- what a line says after its first numbers, from the place where the last of them ends
+abbrev pub ended : List ℕ → ℕ → ℕ → ℕ → ℕ → ℕ → Line
+ended line O C D T at = last (taskOf O C D T) (behind space (drop at line))
+
+abbrev pub periodOn : List ℕ → ℕ → ℕ → ℕ → ℕ → Line
+periodOn line O C D at = byField (fieldAt line at) (ended line O C D)
+
+abbrev pub deadlineOn : List ℕ → ℕ → ℕ → ℕ → Line
+deadlineOn line O C at = byField (fieldAt line at) (periodOn line O C)
+
+abbrev pub runOn : List ℕ → ℕ → ℕ → Line
+runOn line O at = byField (fieldAt line at) (deadlineOn line O)
+
 -- a line that begins with `task`, field by field
-pub line-fields : (line : List ℕ) (w : ℕ) → w ≡ until space line → same (take w line) (bytes "task") ≡ true
-    → lineOf line ≡ byField (fieldAt line w) λ O a. byField (fieldAt line a) λ C b. byField (fieldAt line b) λ D c. byField (fieldAt line c) λ T d.
-    last (taskOf O C D T) (behind space (drop d line))
+pub line-fields : (line : List ℕ) (w : ℕ) → w ≡ until space line → same (take w line) (bytes "task") ≡ true → lineOf line ≡ byField (fieldAt line w) (runOn line)
 line-fields line w is-w e = rw (parts-until space line, ← is-w, e) (simp next-field)
 
 pub line-not : (line : List ℕ) (w : ℕ) → w ≡ until space line → same (take w line) (bytes "task") ≡ false → lineOf line ≡ noTaskLine

@@ -31,6 +31,7 @@ pub struct Contents {
     pub tasks: Tasks,
 }
 
+// What an input says. Its length is looked at before any line.
 pub fn read(s: &[u8]) -> Contents
     ensures { λ r. ⌜ r ≡ held (reading (now (s .entry))) ⌝ }
 {
@@ -62,6 +63,7 @@ fn lines(s: &[u8]) -> Contents
     tasks(s, end + 1, policy)
 }
 
+// The lines from the second on. A list that is too long is read to its end: the array counts what it can't hold.
 fn tasks(s: &[u8], from: usize, policy: Policy) -> Contents
     requires { ⌜ from ≤ length (now s) ⌝ }
     ensures { λ r. ⌜ r ≡ held (tasksOn policy [] 2 (parts newline (drop from (now (s .entry))))) ⌝ }
