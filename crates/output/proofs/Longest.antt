@@ -25,10 +25,6 @@ use Rattle.output.proofs.Room.{clear-length, permitted-limit}
 use Rattle.output.proofs.Counts.{latest-early, load-most}
 use Rattle.output.proofs.Plans.{plan-fits}
 
--- the number that the code and the header name
-pub longest-is : longestOutput ≡ 147547
-longest-is = refl
-
 one-fits : (name : List ℕ) (k a : ℕ) → a < 10 ^ suc k → length (one name a) ≤ length name + suc k + 2
 one-fits name k a h = simp length-append (omega (arith, decimal-length k a h))
 

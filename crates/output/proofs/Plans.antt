@@ -1,7 +1,7 @@
 -- How long the report of a feasible answer is: numbers of at most five digits, and tables of three bytes an entry.
 use mathlib.Core.Path.{_≡_, ap, _∙_}
 use mathlib.Core.List.{List}
-use Prim.Native.Nat.{ℕ, suc, _+_, _*_, _^_, _≤_, _<_}
+use Prim.Native.Nat.{ℕ, suc, _+_, _^_, _≤_, _<_}
 use native.Mathlib.Omega.{arith}
 use lib.ListN.{length, take, length-append}
 use Rattle.task.specs.declared.Task.{Task}
@@ -17,7 +17,7 @@ use Rattle.answer.specs.Promise.{Permitted}
 use Rattle.answer.proofs.Tables.{filled-cut}
 use Rattle.decimal.proofs.Decimal.{decimal-length}
 use Rattle.report.specs.Report.{slotsText, planText, report}
-use Rattle.output.specs.Output.{longestStartup, longestCycle}
+use Rattle.output.specs.Output.{longestStartup, longestCycle, longestOutput}
 use Rattle.schedule.proofs.Sums.{count-few}
 use Rattle.output.proofs.Entries.{table-fits}
 
@@ -74,7 +74,7 @@ module _ (p : Policy) (l : List Task) (startup cycle s c : List ℕ) (n : length
   again-table : take (hyperperiod l) c ≡ slots (endless p l) lead (hyperperiod l)
   again-table = ap (take (hyperperiod l)) (x .buffers .cycle-filled) ∙ filled-cut (endless p l) lead (hyperperiod l) cycle
 
-  pub plan-fits : length (report (feasible q) s c) ≤ 9 + 18 + 11 + 17 + 24 + (5 + 3 * longestStartup + 1) + (5 + 3 * longestCycle + 1)
+  pub plan-fits : length (report (feasible q) s c) ≤ longestOutput
   plan-fits =
       rw (x .is-plan, first-table, again-table)
       (omega (

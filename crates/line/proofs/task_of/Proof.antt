@@ -2,15 +2,13 @@
 use mathlib.Core.Path.{_≡_, sym, _∙_, ap}
 use mathlib.Core.List.{List}
 use Prim.Native.Nat.{ℕ}
-use lib.ListN.{drop}
 use borrow.Author.Needs.{needs}
 use borrow.Author.Tests.{not-true, not-false}
 use Rattle.decimal.specs.Bytes.{space}
-use Rattle.task.specs.Tasks.{taskOf}
 use Rattle.line.specs.declared.Line.the-variants.{Task as taskLine}
 use Rattle.line.specs.Places.{fieldAt}
-use Rattle.line.specs.Kinds.{last, lineOf}
-use Rattle.line.proofs.Places.{until-taken, behind}
+use Rattle.line.specs.Kinds.{lineOf}
+use Rattle.line.proofs.Places.{until-taken}
 use Rattle.line.proofs.Fields.{byField, runOn, deadlineOn, periodOn, ended, found, not-found, line-fields, line-not, last-none, last-more}
 use Rattle.line.proofs.task_of.Statement.{statement}
 use Rattle.line.proofs.task_of.Tie as tie
