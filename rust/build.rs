@@ -1,16 +1,10 @@
-//! Links the archive that `rt staticlib sholakpite` writes. It is for x86-64: elsewhere nothing is linked.
+//! Links the archive that scripts/archive builds for this machine.
 
 use std::env;
 use std::path::PathBuf;
 
 fn main() {
     println!("cargo:rerun-if-env-changed=SHOLAKPITE_LIB");
-    if env::var("CARGO_CFG_TARGET_ARCH").as_deref() == Ok("x86_64") {
-        link();
-    }
-}
-
-fn link() {
     let package = PathBuf::from(env::var("CARGO_MANIFEST_DIR").expect("cargo sets it"));
     let folder = env::var("SHOLAKPITE_LIB")
         .map(PathBuf::from)

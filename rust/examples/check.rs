@@ -1,9 +1,7 @@
 //! List b of document 01, checked from Rust. What it prints is compared with examples/list-b.txt.
 
-#[cfg(target_arch = "x86_64")]
 use sholakpite::{check, Answer, Policy, Task, IDLE};
 
-#[cfg(target_arch = "x86_64")]
 fn print_table(name: &str, table: &[u8]) {
     print!("{name}");
     for &entry in table {
@@ -16,7 +14,6 @@ fn print_table(name: &str, table: &[u8]) {
     println!();
 }
 
-#[cfg(target_arch = "x86_64")]
 fn main() {
     let list = [
         Task {
@@ -56,10 +53,4 @@ fn main() {
         "preemptions {} {}",
         plan.startup_preemptions, plan.cycle_preemptions
     );
-}
-
-#[cfg(not(target_arch = "x86_64"))]
-fn main() -> std::process::ExitCode {
-    eprintln!("the library's archive links on x86-64 alone: this example needs it");
-    std::process::ExitCode::from(2)
 }

@@ -1,5 +1,4 @@
 //! Each kind of answer once, from document 01's lists.
-#![cfg(target_arch = "x86_64")]
 
 use sholakpite::{check, Answer, Plan, Policy, Task, IDLE};
 

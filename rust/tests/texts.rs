@@ -1,5 +1,4 @@
 //! A list as text: read, answered and written.
-#![cfg(target_arch = "x86_64")]
 
 use sholakpite::{answer, write, Policy, Task, LONGEST_INPUT, LONGEST_OUTPUT};
 

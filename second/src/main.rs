@@ -1,17 +1,13 @@
 //! An independent second program: a plain walk of the schedule, compared with the library.
 //!
-//! It is written from the rules alone, so that it shares no error with the library. The library is called where its
-//! archive can be linked; a command that answers over pipes can be compared on any machine.
+//! It is written from the rules alone, so that it shares no error with the library. The library is called through
+//! its archive; a command that answers over pipes can be compared too.
 
 mod arguments;
 mod case;
 mod counts;
 mod damage;
 mod findings;
-#[cfg(target_arch = "x86_64")]
-mod linked;
-#[cfg(not(target_arch = "x86_64"))]
-#[path = "unlinked.rs"]
 mod linked;
 mod lists;
 mod paper;

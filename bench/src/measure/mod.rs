@@ -4,6 +4,7 @@ mod library;
 mod lists;
 
 use bench::plain::{Answer, Policy, Task, plain_loop, plain_passes};
+use library::{Check, LIBRARIES};
 use std::hint::black_box;
 use std::time::Instant;
 
@@ -35,11 +36,11 @@ struct Bench {
     cycle: Vec<u8>,
 }
 
-/// Nanoseconds of one round: the library, then each plain checker.
-type Round = (f64, [f64; PLAIN.len()]);
+/// Nanoseconds of one round: each library, then each plain checker.
+type Round = ([f64; LIBRARIES.len()], [f64; PLAIN.len()]);
 
 pub fn all() {
-    println!("note repetitions: {ROUNDS} rounds (library, plain) after {WARM_UP_ROUNDS} untimed");
+    println!("note repetitions: {ROUNDS} rounds (libraries, plain) after {WARM_UP_ROUNDS} untimed");
     println!("note buffers: one pair for all checkers, filled before timing, never cleared");
     for tasks in lists::all() {
         let mut bench = Bench::new(tasks);
@@ -47,8 +48,10 @@ pub fn all() {
         for (policy, name) in POLICIES {
             bench.assert_same_answers(policy);
             let rounds = bench.measure(policy);
-            for (at, (_, plain)) in PLAIN.iter().enumerate() {
-                bench.print_row(name, plain, &rounds, at);
+            for version in 0..LIBRARIES.len() {
+                for plain in 0..PLAIN.len() {
+                    bench.print_row(name, &rounds, version, plain);
+                }
             }
         }
     }
@@ -85,13 +88,16 @@ impl Bench {
     }
 
     /// The medians over all rounds, as one line of the table.
-    fn print_row(&self, policy: &str, plain: &str, rounds: &[Round], at: usize) {
+    fn print_row(&self, policy: &str, rounds: &[Round], version: usize, at: usize) {
         let slots = self.slots as f64;
+        let ratio = |round: &Round| round.0[version] / round.1[at];
         println!(
-            "row {} {policy} {plain} {:.4} {:.3} {:.3}",
+            "row {} {policy} {} {} {:.4} {:.3} {:.3}",
             self.tasks.len(),
-            median(rounds.iter().map(|(library, plain)| library / plain[at])),
-            median(rounds.iter().map(|(library, _)| library / slots)),
+            LIBRARIES[version].1,
+            PLAIN[at].1,
+            median(rounds.iter().map(ratio)),
+            median(rounds.iter().map(|(library, _)| library[version] / slots)),
             median(rounds.iter().map(|(_, plain)| plain[at] / slots))
         );
     }
@@ -100,35 +106,40 @@ impl Bench {
         // Other bytes than the measured buffers hold, the same for every checker.
         let startup = vec![77; self.startup.len()];
         let cycle = vec![77; self.cycle.len()];
-        let mut row = [0; library::ROW];
-        let mut tables = (startup.clone(), cycle.clone());
-        let code = library::check(policy, &self.words, &mut tables.0, &mut tables.1, &mut row);
-        assert_eq!(code, 0, "a measured list is feasible under {policy:?}");
+        let said = LIBRARIES.map(|(check, _)| {
+            let mut row = [0; library::ROW];
+            let mut tables = (startup.clone(), cycle.clone());
+            let code = check(policy, &self.words, &mut tables.0, &mut tables.1, &mut row);
+            assert_eq!(code, 0, "a measured list is feasible under {policy:?}");
+            (row[..7].to_vec(), tables)
+        });
         for (plain, name) in PLAIN {
-            let mut others = (startup.clone(), cycle.clone());
-            let answer = plain(&self.tasks, policy, &mut others.0, &mut others.1);
-            assert_eq!(row[..7], numbers_of(&answer), "{name}, {policy:?}");
-            assert!(tables == others, "tables of {name}, {policy:?}");
+            let mut tables = (startup.clone(), cycle.clone());
+            let answer = plain(&self.tasks, policy, &mut tables.0, &mut tables.1);
+            for (numbers, others) in &said {
+                assert_eq!(numbers[..], numbers_of(&answer), "{name}, {policy:?}");
+                assert!(tables == *others, "tables of {name}, {policy:?}");
+            }
         }
     }
 
     fn measure(&mut self, policy: Policy) -> Vec<Round> {
         let mut rounds = Vec::with_capacity(ROUNDS);
         for round in 0..WARM_UP_ROUNDS + ROUNDS {
-            let library = self.time_library(policy);
+            let libraries = LIBRARIES.map(|(check, _)| self.time_library(check, policy));
             let plain = PLAIN.map(|(plain, _)| self.time_plain(plain, policy));
             if round >= WARM_UP_ROUNDS {
-                rounds.push((library, plain));
+                rounds.push((libraries, plain));
             }
         }
         rounds
     }
 
-    /// Nanoseconds of one run of the library.
-    fn time_library(&mut self, policy: Policy) -> f64 {
+    /// Nanoseconds of one run of a library.
+    fn time_library(&mut self, check: Check, policy: Policy) -> f64 {
         let mut row = [0; library::ROW];
         let start = Instant::now();
-        let code = library::check(
+        let code = check(
             black_box(policy),
             black_box(&self.words),
             black_box(&mut self.startup),
