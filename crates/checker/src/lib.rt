@@ -1,4 +1,5 @@
 // The checker: a list, a policy and two lent buffers in, the answer and the tables out. Document 01, "What comes back".
+mod choice;
 mod judge;
 mod part;
 mod release;

@@ -5,7 +5,7 @@ ghost use Rattle.task.specs.declared.Task.{Task};
 ghost use Rattle.task.specs.Limits.{mostTasks};
 ghost use Rattle.state.specs.State.{Sized, Spread};
 ghost use Rattle.state.specs.Engine.{Loaded, Fresh, Instant};
-use crate::part::pick;
+use crate::choice::choose;
 use crate::release::arrive;
 use schedule::Policy;
 use task::Task;
@@ -49,5 +49,5 @@ pub(crate) fn begin(
     ensures { λ r. ⌜ ((l : List Task) → Loaded l n (now (run .entry)) (now (deadline .entry)) (now (period .entry)) → Fresh l (now (owed .entry)) (now (next .entry)) → Instant policy l 0 (now (owed .exit)) (now (next .exit)) (now (dues .exit)) (now (keys .exit)) r) ⌝ }
 {
     arrive(policy, n, 0, run, deadline, period, owed, next, dues, keys);
-    pick(owed, keys, n)
+    choose(policy, owed, keys, n)
 }

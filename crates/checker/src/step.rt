@@ -9,7 +9,7 @@ ghost use Rattle.task.specs.declared.Task.{Task};
 ghost use Rattle.task.specs.Limits.{mostTasks};
 ghost use Rattle.schedule.specs.Job.{one-if};
 ghost use Rattle.state.specs.Engine.{plenty, Loaded, Instant, Put, Stepped};
-use crate::part::pick;
+use crate::choice::choose;
 use crate::part::serve;
 use crate::release::arrive;
 use answer::IDLE;
@@ -70,7 +70,7 @@ pub(crate) fn step(
             instant,
         };
     }
-    let following = pick(owed, keys, n);
+    let following = choose(policy, owed, keys, n);
     let preemptions = switched(n, running, following, w.preemptions);
     Now {
         chosen: following,

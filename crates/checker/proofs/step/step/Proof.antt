@@ -3,6 +3,7 @@ use mathlib.Core.Path.{refl}
 use native.Mathlib.Omega.{arith}
 use Rattle.state.proofs.Stepping.{few, keys-small, serve-some, sized₁, fitting, kept₂, stepped-on, stepped-missed}
 use borrow.Author.Needs.{needs}
+use Rattle.checker.proofs.Listed.{keys-listed}
 use Rattle.checker.proofs.step.step.Statement.{statement}
 use Rattle.checker.proofs.step.step.Tie as tie
 
@@ -36,15 +37,16 @@ returns c =
     let s = f .before .before .before .before .before in
     (λ l L I. stepped-missed L I (s .serve .ensures) (f .arrive .ensures .0) (c .if1 .taken) (s .before .before .before .before .put .ensures), refl)
 
-pick-requires : tie.Need-pick-requires
-pick-requires c κs =
+choose-requires : tie.Need-choose-requires
+choose-requires c κs =
     let e = c .before .before in
     let f = e .before in
     let s = f .before .before .before .before .before in
     let x = s .before .before .before .before .before .before .before in
     let L = x .pre .0 .1 in
     let a = f .arrive .ensures in
-    (few L, keys-small L (omega arith) (kept₂ L (x .pre .0 .2) (s .serve .ensures) (a .0) (e .if1 .left) (a .1 (e .if1 .left))))
+    let K = kept₂ L (x .pre .0 .2) (s .serve .ensures) (a .0) (e .if1 .left) (a .1 (e .if1 .left)) in
+    (few L, (keys-small L (omega arith) K, keys-listed L K))
 
 switched-requires : tie.Need-switched-requires
 switched-requires c κs = search needs
@@ -60,7 +62,7 @@ returns-2 c =
     let s = f .before .before .before .before .before in
     let u = s .before .before .before .before in
     let a = f .arrive .ensures in (
-      λ l L I. stepped-on L I (s .serve .ensures) (a .0) (e .if1 .left) (a .1 (e .if1 .left)) (u .put .ensures) (k .pick .ensures) (c .switched .ensures),
+      λ l L I. stepped-on L I (s .serve .ensures) (a .0) (e .if1 .left) (a .1 (e .if1 .left)) (u .put .ensures) (k .choose .ensures) (c .switched .ensures),
       refl,
     )
 
@@ -74,7 +76,7 @@ step-spec =
     arrive-requires
     same-length
     returns
-    pick-requires
+    choose-requires
     switched-requires
     same-length-2
     returns-2)
