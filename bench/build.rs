@@ -1,10 +1,9 @@
-//! Hands the two paddings of a layout to the build, and the earlier library if there is one.
+//! Hands the plain checkers' padding to the build, and the earlier library if there is one.
 
 use std::env;
 
 fn main() {
     println!("cargo::rerun-if-changed=build.rs");
-    pass_padding("BENCH_PAD_ALL");
     pass_padding("BENCH_PAD_PLAIN");
     link_before("BENCH_BEFORE");
 }

@@ -2,9 +2,10 @@
 
 pub mod plain;
 
-// Moves the plain checkers, not the archive; "R" keeps it although nothing refers to it.
+// Puts the plain checkers so many bytes after a multiple of 64; "R" keeps it although nothing refers to it.
 std::arch::global_asm!(
     ".section .text.pad_plain,\"axR\",@progbits",
+    ".p2align 6",
     concat!(".skip ", env!("BENCH_PAD_PLAIN")),
     ".text",
 );

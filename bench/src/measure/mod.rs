@@ -8,13 +8,6 @@ use library::{Check, LIBRARIES};
 use std::hint::black_box;
 use std::time::Instant;
 
-// Moves all code behind it, the archive's too; "R" keeps it although nothing refers to it.
-std::arch::global_asm!(
-    ".section .text.pad_all,\"axR\",@progbits",
-    concat!(".skip ", env!("BENCH_PAD_ALL")),
-    ".text",
-);
-
 const ROUNDS: usize = 151;
 const WARM_UP_ROUNDS: usize = 5;
 const POLICIES: [(Policy, &str); 4] = [
