@@ -1,15 +1,9 @@
 //! Each kind of answer once, from document 01's lists.
 
-use sholakpite::{check, Answer, Plan, Policy, Task, IDLE};
+mod lists;
 
-fn task(offset: u64, run: u64, deadline: u64, period: u64) -> Task {
-    Task {
-        offset,
-        run,
-        deadline,
-        period,
-    }
-}
+use lists::{task, LIST_B};
+use sholakpite::{check, Answer, Plan, Policy, Task, IDLE};
 
 /// The answer, and both buffers, filled with 99 before.
 fn checked(
@@ -26,7 +20,6 @@ fn checked(
 
 #[test]
 fn list_b_is_feasible() {
-    let list = [task(0, 2, 4, 4), task(1, 1, 2, 4)];
     let plan = Plan {
         latest: 1,
         hyperperiod: 4,
@@ -39,7 +32,7 @@ fn list_b_is_feasible() {
     let startup = vec![0, 1, 0, IDLE, 0, 99];
     let cycle = vec![1, 0, IDLE, 0, 99];
     assert_eq!(
-        checked(&list, Policy::EarliestDeadlineFirst, 6, 5),
+        checked(&LIST_B, Policy::EarliestDeadlineFirst, 6, 5),
         (Answer::Feasible(plan), startup, cycle)
     );
 }

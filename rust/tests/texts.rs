@@ -1,21 +1,9 @@
 //! A list as text: read, answered and written.
 
-use sholakpite::{answer, write, Policy, Task, LONGEST_INPUT, LONGEST_OUTPUT};
+mod lists;
 
-const LIST_B: [Task; 2] = [
-    Task {
-        offset: 0,
-        run: 2,
-        deadline: 4,
-        period: 4,
-    },
-    Task {
-        offset: 1,
-        run: 1,
-        deadline: 2,
-        period: 4,
-    },
-];
+use lists::LIST_B;
+use sholakpite::{answer, write, Policy, Task, LONGEST_INPUT, LONGEST_OUTPUT};
 
 const TEXT_B: &[u8] = b"policy edf\ntask 0 2 4 4\ntask 1 1 2 4\n";
 
