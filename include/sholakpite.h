@@ -14,7 +14,7 @@
 extern "C" {
 #endif
 
-/* Who gets the slot. */
+/* Who gets the slot. Equal keys go to the lower task; before that, under EDF, equal due instants go to the earlier release. */
 #define SHOLAKPITE_LIST_ORDER 0
 #define SHOLAKPITE_RATE_MONOTONIC 1
 #define SHOLAKPITE_DEADLINE_MONOTONIC 2

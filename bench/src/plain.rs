@@ -49,8 +49,11 @@ struct Job {
     next_release: u64,
     due: u64,
     left: u64,
-    key: u64,
+    key: Key,
 }
+
+/// Two numbers: the second is looked at where the first are equal.
+type Key = (u64, u64);
 
 impl Task {
     pub const MOST_TASKS: usize = 16;
@@ -76,12 +79,12 @@ impl Task {
 
 impl Policy {
     /// The smaller key is served first; equal keys go by task number.
-    fn key(self, number: usize, task: &Task, due: u64) -> u64 {
+    fn key(self, number: usize, task: &Task, release: u64) -> Key {
         match self {
-            Policy::ListOrder => number as u64,
-            Policy::RateMonotonic => task.period,
-            Policy::DeadlineMonotonic => task.deadline,
-            Policy::EarliestDeadlineFirst => due,
+            Policy::ListOrder => (number as u64, 0),
+            Policy::RateMonotonic => (task.period, 0),
+            Policy::DeadlineMonotonic => (task.deadline, 0),
+            Policy::EarliestDeadlineFirst => (release + task.deadline, release),
         }
     }
 }
@@ -103,7 +106,7 @@ impl Job {
             next_release: task.offset,
             due: 0,
             left: 0,
-            key: 0,
+            key: (0, 0),
         }
     }
 
@@ -119,7 +122,7 @@ impl Job {
         self.next_release = instant + task.period;
         self.due = instant + task.deadline;
         self.left = task.run;
-        self.key = policy.key(number, task, self.due);
+        self.key = policy.key(number, task, instant);
     }
 }
 
@@ -266,7 +269,7 @@ fn by_loop(
     instant: u64,
 ) -> Result<Option<usize>, usize> {
     let mut served = None;
-    let mut least = u64::MAX;
+    let mut least = (u64::MAX, u64::MAX);
     for (number, (job, task)) in jobs.iter_mut().zip(tasks).enumerate() {
         if job.misses_at(instant) {
             return Err(number);

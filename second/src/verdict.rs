@@ -12,6 +12,8 @@ pub struct Verdict {
     pub cycle: Vec<u8>,
     /// How many refusals apply, to see that their order was tried.
     pub refusals: usize,
+    /// Under EDF an earlier release went before a lower task.
+    pub release_decided: bool,
     /// A preemption at instant M + 2H.
     pub last_preemption: bool,
     /// Claims of the paper that this walk contradicts; any is a failure.
@@ -25,6 +27,7 @@ impl Verdict {
             startup: Vec::new(),
             cycle: Vec::new(),
             refusals: 0,
+            release_decided: false,
             last_preemption: false,
             broken: Vec::new(),
         }
@@ -61,7 +64,7 @@ fn judge_walk(policy: Policy, tasks: &[Task], hyperperiod: u64) -> Verdict {
     let walk = walk::walk(policy, tasks, repeats + 3 * hyperperiod);
     match walk.miss {
         Some(miss) => missed(&walk, miss, repeats, hyperperiod),
-        None => feasible(&walk, tasks, hyperperiod),
+        None => feasible(policy, &walk, tasks, hyperperiod),
     }
 }
 
@@ -80,12 +83,13 @@ fn missed(walk: &Walk, miss: Miss, repeats: u64, hyperperiod: u64) -> Verdict {
     Verdict {
         startup: readoff::table(&walk.slots[..startup_end]),
         cycle: readoff::table(&walk.slots[startup_end..cycle_end]),
+        release_decided: walk.release_decided,
         broken,
         ..Verdict::plain(answer)
     }
 }
 
-fn feasible(walk: &Walk, tasks: &[Task], hyperperiod: u64) -> Verdict {
+fn feasible(policy: Policy, walk: &Walk, tasks: &[Task], hyperperiod: u64) -> Verdict {
     let largest_offset = paper::largest_offset(tasks);
     let repeats = largest_offset + hyperperiod;
     let end = repeats + hyperperiod;
@@ -101,10 +105,15 @@ fn feasible(walk: &Walk, tasks: &[Task], hyperperiod: u64) -> Verdict {
         idle: [readoff::idle(&startup), readoff::idle(&cycle)],
         preemptions: [in_startup, instants.len() as u64 - in_startup],
     };
+    let mut broken = broken_claims(walk, tasks, hyperperiod, readoff::idle(&cycle));
+    if policy == Policy::EarliestDeadlineFirst {
+        broken.extend(readoff::pointless(&walk.slots, tasks, &instants));
+    }
     Verdict {
-        broken: broken_claims(walk, tasks, hyperperiod, readoff::idle(&cycle)),
+        broken,
         startup,
         cycle,
+        release_decided: walk.release_decided,
         last_preemption: instants.last() == Some(&end),
         ..Verdict::plain(answer)
     }

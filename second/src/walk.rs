@@ -32,22 +32,36 @@ pub struct Miss {
 pub struct Walk {
     pub slots: Vec<Option<Served>>,
     pub miss: Option<Miss>,
+    /// Under EDF a job went before one of a lower task that is due at the same instant, as it was released before it.
+    pub release_decided: bool,
 }
 
 /// Walks instants 0 to `last`; stops early only at the first miss.
 pub fn walk(policy: Policy, tasks: &[Task], last: u64) -> Walk {
     let mut jobs: Vec<Job> = Vec::new();
     let mut slots = Vec::new();
+    let mut release_decided = false;
     for instant in 0..=last {
         if let Some(task) = missing(&jobs, instant) {
-            let miss = Some(Miss { task, instant });
-            return Walk { slots, miss };
+            return Walk {
+                slots,
+                miss: Some(Miss { task, instant }),
+                release_decided,
+            };
         }
         jobs.retain(|job| job.due > instant);
         release(&mut jobs, tasks, instant);
-        slots.push(serve(&mut jobs, policy, tasks, instant));
+        let chosen = choose(&jobs, policy, tasks, instant);
+        if policy == Policy::EarliestDeadlineFirst {
+            release_decided |= chosen.is_some_and(|at| passes_lower_task(&jobs, at, instant));
+        }
+        slots.push(chosen.map(|at| serve(&mut jobs[at])));
     }
-    Walk { slots, miss: None }
+    Walk {
+        slots,
+        miss: None,
+        release_decided,
+    }
 }
 
 /// The least task with a job due now that has not had all its slots.
@@ -72,28 +86,37 @@ fn release(jobs: &mut Vec<Job>, tasks: &[Task], instant: u64) {
     }
 }
 
-/// Gives the slot to the ready job with the smallest key, if there is one.
-fn serve(jobs: &mut [Job], policy: Policy, tasks: &[Task], instant: u64) -> Option<Served> {
-    let job = jobs
-        .iter_mut()
-        .filter(|job| job.ready(instant))
-        .min_by_key(|job| key(policy, &tasks[job.task], job))?;
-    job.needed -= 1;
-    Some(Served {
-        task: job.task,
-        number: job.number,
-    })
+/// The ready job with the smallest key, if there is one.
+fn choose(jobs: &[Job], policy: Policy, tasks: &[Task], instant: u64) -> Option<usize> {
+    (0..jobs.len())
+        .filter(|&at| jobs[at].ready(instant))
+        .min_by_key(|&at| key(policy, &tasks[jobs[at].task], &jobs[at]))
 }
 
-/// The policy's number first, the task number where that is equal.
-fn key(policy: Policy, task: &Task, job: &Job) -> (u64, usize) {
-    let first = match policy {
-        Policy::ListOrder => job.task as u64,
-        Policy::RateMonotonic => task.period,
-        Policy::DeadlineMonotonic => task.deadline,
-        Policy::EarliestDeadlineFirst => job.due,
+fn serve(job: &mut Job) -> Served {
+    job.needed -= 1;
+    Served {
+        task: job.task,
+        number: job.number,
+    }
+}
+
+/// The policy's numbers first, the task number where they are equal.
+fn key(policy: Policy, task: &Task, job: &Job) -> ([u64; 2], usize) {
+    let numbers = match policy {
+        Policy::ListOrder => [job.task as u64, 0],
+        Policy::RateMonotonic => [task.period, 0],
+        Policy::DeadlineMonotonic => [task.deadline, 0],
+        Policy::EarliestDeadlineFirst => [job.due, job.release],
     };
-    (first, job.task)
+    (numbers, job.task)
+}
+
+/// A job of a lower task that is due at the same instant waits as well.
+fn passes_lower_task(jobs: &[Job], chosen: usize, instant: u64) -> bool {
+    let chosen = &jobs[chosen];
+    jobs.iter()
+        .any(|job| job.ready(instant) && job.due == chosen.due && job.task < chosen.task)
 }
 
 #[cfg(test)]
@@ -115,11 +138,31 @@ mod tests {
         assert_eq!(walk.slots.len(), 2);
     }
 
+    fn served(policy: Policy, tasks: &[u64], last: u64) -> Vec<Option<usize>> {
+        let walk = walk(policy, &tasks_of(tasks), last);
+        walk.slots.iter().map(|s| s.map(|s| s.task)).collect()
+    }
+
     #[test]
-    fn equal_instants_due_go_by_task_number() {
-        let tasks = tasks_of(&[1, 1, 2, 4, 0, 2, 3, 4]);
-        let walk = walk(Policy::EarliestDeadlineFirst, &tasks, 3);
-        let served: Vec<_> = walk.slots.iter().map(|s| s.map(|s| s.task)).collect();
-        assert_eq!(served, [Some(1), Some(0), Some(1), None]);
+    fn equal_instants_due_go_to_the_earlier_release() {
+        let tasks = [1, 1, 2, 4, 0, 2, 3, 4];
+        let slots = served(Policy::EarliestDeadlineFirst, &tasks, 3);
+        assert_eq!(slots, [Some(1), Some(1), Some(0), None]);
+    }
+
+    #[test]
+    fn equal_instants_due_and_releases_go_by_task_number() {
+        let tasks = [0, 1, 3, 4, 0, 2, 3, 4];
+        let slots = served(Policy::EarliestDeadlineFirst, &tasks, 3);
+        assert_eq!(slots, [Some(0), Some(1), Some(1), None]);
+    }
+
+    #[test]
+    fn other_equal_keys_go_by_task_number_whatever_the_release() {
+        let tasks = [1, 1, 4, 4, 0, 2, 4, 4];
+        for policy in [Policy::RateMonotonic, Policy::DeadlineMonotonic] {
+            let slots = served(policy, &tasks, 3);
+            assert_eq!(slots, [Some(1), Some(0), Some(1), None]);
+        }
     }
 }

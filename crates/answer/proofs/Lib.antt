@@ -3,6 +3,7 @@ pub mod Search
 pub mod Misses
 pub mod Model
 pub mod Verdicts
+pub mod Switches
 pub mod Tables
 pub mod Lookup
 pub mod Marked

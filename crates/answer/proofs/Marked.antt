@@ -1,4 +1,4 @@
--- The marked lists of document 01, "Lists to try": one table, and one statement for all of its rows.
+-- The marked lists of document 01, "Lists to try", list l as request #103 has it: one table, and one statement for all of its rows.
 use mathlib.Core.Path.{_≡_, refl, subst}
 use mathlib.Core.List.{List, [], _∷_, map, List·Memᴰ, List·Memᴰ·head, List·Memᴰ·tail}
 use Prim.Native.Nat.{ℕ}
@@ -61,7 +61,7 @@ table =
     (entry RateMonotonic (taskOf 0 2 5 5 ∷ taskOf 0 4 7 7 ∷ []) 35 35 (missed 1 7) (0 ∷ 0 ∷ 1 ∷ 1 ∷ 1 ∷ 0 ∷ 0 ∷ old 28) (old 35)
     ∷ entry ListOrder (taskOf 0 4 7 7 ∷ taskOf 0 2 5 5 ∷ []) 35 35 (missed 1 5) (0 ∷ 0 ∷ 0 ∷ 0 ∷ 1 ∷ old 30) (old 35)
     ∷ entry RateMonotonic (taskOf 0 4 7 7 ∷ taskOf 0 2 5 5 ∷ []) 35 35 (missed 0 7) (1 ∷ 1 ∷ 0 ∷ 0 ∷ 0 ∷ 1 ∷ 1 ∷ old 28) (old 35)
-    ∷ entry Edf (taskOf 1 1 3 4 ∷ taskOf 0 2 4 4 ∷ []) 5 4 (plan 1 4 3 1 1 2 1) (1 ∷ 0 ∷ 1 ∷ 255 ∷ 1 ∷ []) (0 ∷ 1 ∷ 255 ∷ 1 ∷ [])
+    ∷ entry Edf (taskOf 1 1 3 4 ∷ taskOf 0 2 4 4 ∷ []) 5 4 (plan 1 4 3 1 1 0 0) (1 ∷ 1 ∷ 0 ∷ 255 ∷ 1 ∷ []) (1 ∷ 0 ∷ 255 ∷ 1 ∷ [])
     ∷ []))
 
 abbrev modelOf : Entry → Outcome

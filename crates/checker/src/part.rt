@@ -1,11 +1,8 @@
-// The parts of one slot: who is next, who is served, and by which key.
-ghost use mathlib.Core.Path.{_≡_};
-ghost use Prim.Native.Nat.{ℕ, _-_, _≤_, _<_};
+// The parts of one slot: who is next, and who is served.
+ghost use Prim.Native.Nat.{ℕ, _≤_, _<_};
 ghost use lib.ListN.{length};
 ghost use Rattle.task.specs.Limits.{largest, mostTasks};
-ghost use Rattle.schedule.specs.Job.{keyFrom};
 ghost use Rattle.state.specs.State.{at, Picked, Served};
-use schedule::Policy;
 use task::Task;
 
 // The task whose job goes first: the least key, the lower number where keys are equal; n where no job is ready.
@@ -43,22 +40,4 @@ pub(crate) fn serve(owed: &mut [usize; Task::MOST], n: usize, chosen: usize) -> 
         return n;
     }
     chosen
-}
-
-// What the policy orders a job by: the one place that knows the four keys.
-pub(crate) fn key(
-    policy: Policy,
-    number: usize,
-    period: usize,
-    deadline: usize,
-    due: usize,
-) -> usize
-    ensures { λ r. ⌜ r ≡ keyFrom policy number period deadline due ⌝ }
-{
-    match policy {
-        Policy::ListOrder => number,
-        Policy::RateMonotonic => period,
-        Policy::DeadlineMonotonic => deadline,
-        Policy::Edf => due,
-    }
 }

@@ -1,3 +1,4 @@
+pub mod Packing
 pub mod Moves
 pub mod Preempted
 pub mod Parts

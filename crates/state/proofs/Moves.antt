@@ -8,16 +8,18 @@ use native.Mathlib.Decide.{decLt, ℕ-discrete}
 use native.Mathlib.Omega.{arith}
 use lib.ListN.{length}
 use Rattle.task.specs.declared.Task.{Task}
+use Rattle.task.specs.Limits.{longestPeriod}
 use Rattle.task.specs.Tasks.{task}
 use Rattle.schedule.specs.declared.Policy.{Policy}
-use Rattle.schedule.specs.Job.{release, due, keyFrom, keyOf, Miss, FirstMiss}
+use Rattle.schedule.specs.Job.{release, due, keyFrom, Miss, FirstMiss}
 use Rattle.schedule.specs.Endless.{arrived, served, endless, pickAt}
 use Rattle.schedule.proofs.Arrivals.{div-mono, upTo-iff, upTo-few}
 use Rattle.schedule.proofs.Run.{Sound, Waits, Run, had-mono}
 use Rattle.schedule.proofs.Chosen.{hadBy, endless-run}
 use Rattle.schedule.proofs.Keys.{aheadOf}
 use Rattle.schedule.proofs.Schedule.{endless-late, endless-miss}
-use Rattle.state.specs.State.{at, Unpacked, present, before, Working, KeptBefore, KeptAt, Clear, First, Late, Picked, Served, Released}
+use Rattle.state.specs.State.{at, Unpacked, present, before, packed, Working, KeptBefore, KeptAt, Clear, First, Late, Picked, Served, Released}
+use Rattle.state.proofs.Packing.{packed-ahead}
 
 not-both : (a b i j : ℕ) → (a < b) ⊎ ((a ≡ b) × (i < j)) → (b < a) ⊎ ((b ≡ a) × (j ≤ i)) → ⊥
 not-both a b i j (inl x) (inl y) = omega arith
@@ -57,8 +59,8 @@ module _ (p : Policy) {l : List Task} {H : ℕ} (w : Sound l H) where
     pub owed-waits : (i : ℕ) → i < length l → (0 < at owed i) ↔ Waits l (hadBy p l) t i
     owed-waits i b = (λ h. omega (arith, x .owed-is i b), λ h. omega (arith, x .owed-is i b))
 
-    pub picked-is : (r : ℕ) → Picked owed keys (length l) r → r ≡ pickAt p l t
-    picked-is r k = go (decLt (pickAt p l t) (length l)) (decLt r (length l)) (ℕ-discrete r (pickAt p l t))
+    pub picked-is : ((i : ℕ) → i < length l → task l i .deadline ≤ longestPeriod) → (r : ℕ) → Picked owed keys (length l) r → r ≡ pickAt p l t
+    picked-is short r k = go (decLt (pickAt p l t) (length l)) (decLt r (length l)) (ℕ-discrete r (pickAt p l t))
       where
         R : Run l (aheadOf p l) (hadBy p l) (pickAt p l)
         R = endless-run p l
@@ -68,7 +70,7 @@ module _ (p : Policy) {l : List Task} {H : ℕ} (w : Sound l H) where
         key-ahead a b ne =
             let i : ℕ = pickAt p l t in
             rw (x .working i a (owed-waits i a .1 (R .ready t a)) .key-is, x .working r b (k .waits b) .key-is)
-            (R .first t r a b ne (owed-waits r b .0 (k .waits b)))
+            (packed-ahead p l short i (present p l t i) r (present p l t r) b (R .first t r a b ne (owed-waits r b .0 (k .waits b))))
 
         -- of two that differ neither goes before the other
         clash : pickAt p l t < length l → r < length l → (r ≡ pickAt p l t → ⊥) → ⊥
@@ -191,8 +193,8 @@ module _ (p : Policy) {l : List Task} {H : ℕ} (w : Sound l H) where
         goes-on = omega (arith, R .1, u .period-is i b, ap (λ z. z * τ .period) g, x .next-is i b);
         works = λ h. record {
           last = ap suc k ∙ sym g;
-          due-is = R .2 ∙ rw (u .deadline-is i b) its-due ∙ ap (due τ) (sym k);
-          key-is = R .3 ∙ rw (u .period-is i b, u .deadline-is i b, its-due) (ap (keyOf p i τ) (sym k));
+          due-is = R .2 ∙ rw (u .deadline-is i b) (ap (λ (r : ℕ). r + τ .deadline) its-release);
+          key-is = R .3 ∙ rw (u .period-is i b, u .deadline-is i b) (ap (λ (r : ℕ). packed (keyFrom p i (τ .period) (τ .deadline) r)) its-release);
         };
       }
         where
@@ -200,7 +202,7 @@ module _ (p : Policy) {l : List Task} {H : ℕ} (w : Sound l H) where
           τ = task l i
 
           R : (at owed′ i ≡ at owed i + at run i) × (at next′ i ≡ t + at period i) × (at dues′ i ≡ t + at deadline i)
-              × (at keys′ i ≡ keyFrom p i (at period i) (at deadline i) (t + at deadline i))
+              × (at keys′ i ≡ packed (keyFrom p i (at period i) (at deadline i) t))
           R = rel i b .now e
 
           none : at owed i ≡ 0
@@ -212,11 +214,11 @@ module _ (p : Policy) {l : List Task} {H : ℕ} (w : Sound l H) where
           had : at (served p l t) i ≡ τ .run * before τ t
           had = omega (arith, x .owed-is i b, none)
 
-          its-due : t + τ .deadline ≡ due τ (before τ t)
-          its-due = omega (arith, x .next-is i b)
-
           k : present p l t i ≡ before τ t
           k = ap (λ z. z / τ .run) had ∙ mul-div-cancel-left (before τ t) (w .runs i b)
+
+          its-release : t ≡ release τ (present p l t i)
+          its-release = sym e ∙ x .next-is i b ∙ ap (release τ) (sym k)
 
       not-now : (i : ℕ) → i < length l → (at next i ≡ t → ⊥) → One i
       not-now i b ne =

@@ -16,7 +16,7 @@ use Rattle.schedule.specs.declared.Policy.{Policy}
 use Rattle.state.specs.State.{at, Sized, Spread, KeptAt, Picked, Fitting, AllReleased, First, Late}
 use Rattle.state.specs.Engine.{Loaded, Fresh, Instant}
 use Rattle.state.proofs.Moves.{picked-is, kept-start, clear-start, kept-released}
-use Rattle.state.proofs.Stepping.{ok, w}
+use Rattle.state.proofs.Stepping.{ok, w, short-deadlines, fits}
 
 -- one more number stored
 stored : (l : List ℕ) (i v : ℕ) (f : ℕ → ℕ) → length l ≡ mostTasks → i < mostTasks → v ≡ f i →
@@ -85,13 +85,7 @@ module _ {l : List Task} {n : ℕ} {run deadline period owed next : List ℕ} (L
   timely i b = omega (arith, ok L .fine i b .runs, ok L .fine i b .fits)
 
   pub fitting-start : Fitting n 0 run deadline period owed next
-  fitting-start i b e =
-      let il : i < length l = omega (arith, L .counted) in
-      let F = ok L .fine i il in (
-        omega (arith, f .nothing-owed i il, L .unpacked .run-is i il, F .fits, F .within, F .short),
-        omega (arith, L .unpacked .period-is i il, F .short),
-        omega (arith, L .unpacked .deadline-is i il, F .within, F .short),
-      )
+  fitting-start = fits L owed next 0 (omega arith) (λ i b. omega (arith, f .nothing-owed i b))
 
   -- where nothing is owed nobody is late
   pub none-late : (dues : List ℕ) (t r : ℕ) → First (Late owed dues t) n r → n ≤ r
@@ -114,5 +108,5 @@ module _ {l : List Task} {n : ℕ} {run deadline period owed next : List ℕ} (L
       sized = rel .sized;
       kept = kept-first;
       clear = clear-start p (w L) timely;
-      is-chosen = picked-is p (w L) 0 owed′ next′ dues′ keys′ kept-first chosen (rw (L .counted) at k);
+      is-chosen = picked-is p (w L) 0 owed′ next′ dues′ keys′ kept-first (short-deadlines L) chosen (rw (L .counted) at k);
     }

@@ -10,20 +10,20 @@ use native.Mathlib.Omega.{arith}
 use lib.Dec.{eqb, ltb}
 use lib.ListN.{length, set}
 use Rattle.task.specs.declared.Task.{Task}
-use Rattle.task.specs.Limits.{largest, mostTasks}
+use Rattle.task.specs.Limits.{largest, mostTasks, longestPeriod}
 use Rattle.task.specs.Tasks.{task, hyperperiod}
 use Rattle.task.proofs.Refusing.{Fine, Passed, passed}
 use Rattle.schedule.specs.declared.Policy.{Policy}
 use Rattle.schedule.specs.declared.Policy.the-variants.{ListOrder, RateMonotonic, DeadlineMonotonic, Edf}
-use Rattle.schedule.specs.Job.{one-if, isIdle, keyOf}
-use Rattle.schedule.specs.Endless.{arrived, served, endless, pickAt}
+use Rattle.schedule.specs.Job.{release, one-if, isIdle, keyFrom}
+use Rattle.schedule.specs.Endless.{served, endless, pickAt}
 use Rattle.schedule.proofs.Admitted.{is-sound}
 use Rattle.schedule.proofs.Arrivals.{upTo-iff}
 use Rattle.schedule.proofs.Run.{Sound}
 use Rattle.schedule.proofs.Chosen.{endless-run}
 use Rattle.schedule.proofs.Schedule.{endless-slots}
 use Rattle.answer.specs.Tables.{byteOf, preempts}
-use Rattle.state.specs.State.{at, present, KeptBefore, KeptAt, Clear, First, Late, Picked, Served, Fitting, Sized, AllReleased}
+use Rattle.state.specs.State.{at, present, packed, KeptBefore, KeptAt, Clear, First, Late, Picked, Served, Fitting, Sized, AllReleased}
 use Rattle.state.specs.Engine.{plenty, Loaded, Instant, Put, Stepped}
 use Rattle.state.proofs.Moves.{owed-waits, picked-is, kept-served, first-miss, clear-next, kept-released}
 use Rattle.state.proofs.Preempted.{preempted}
@@ -35,28 +35,46 @@ module _ {l : List Task} {n : ℕ} {run deadline period : List ℕ} (L : Loaded 
   pub w : Sound l (hyperperiod l)
   w = is-sound ok
 
+  pub short-deadlines : (i : ℕ) → i < length l → task l i .deadline ≤ longestPeriod
+  short-deadlines i b = omega (arith, ok .fine i b .within, ok .fine i b .short)
+
   pub few : n ≤ mostTasks
   few = omega (arith, L .counted, ok .few)
 
-  -- the keys that are looked at are small
-  key-small : (p : Policy) (t i k : ℕ) → i < length l → k < arrived (task l i) t → t < plenty → keyOf p i (task l i) k < largest
-  key-small p t i k b h q = go p
+  -- no key wraps, and none is the largest number
+  key-small : (p : Policy) (i r : ℕ) → i < length l → r ≤ plenty →
+      packed (keyFrom p i (task l i .period) (task l i .deadline) r) < largest
+  key-small p i r b q = go p
     where
       F : Fine (task l i)
       F = ok .fine i b
 
-      go : (p : Policy) → keyOf p i (task l i) k < largest
+      go : (p : Policy) → packed (keyFrom p i (task l i .period) (task l i .deadline) r) < largest
       go ListOrder = omega (arith, ok .few)
       go RateMonotonic = omega (arith, F .short)
       go DeadlineMonotonic = omega (arith, F .within, F .short)
-      go Edf = omega (arith, F .within, F .short, upTo-iff (task l i .offset) (task l i .period) (F .live) t k .0 h)
+      go Edf = omega (arith, F .within, F .short)
+
+  -- a release at r wraps nothing where no more than one job's run time is owed
+  pub fits : (owed next : List ℕ) (r : ℕ) → r ≤ plenty → ((i : ℕ) → i < length l → at owed i ≤ task l i .run) →
+      Fitting n r run deadline period owed next
+  fits owed next r q one-job i b e =
+      let il : i < length l = omega (arith, L .counted) in
+      let F = ok .fine i il in (
+        omega (arith, one-job i il, L .unpacked .run-is i il, F .fits, F .within, F .short),
+        omega (arith, L .unpacked .period-is i il, F .short),
+        omega (arith, L .unpacked .deadline-is i il, F .within, F .short),
+      )
 
   pub keys-small : {p : Policy} {t : ℕ} {owed next dues keys : List ℕ} → t < plenty → KeptAt p l t owed next dues keys →
       (i : ℕ) → i < n → 0 < at owed i → at keys i < largest
   keys-small {p} {t} q x i b h =
       let il : i < length l = omega (arith, L .counted) in
+      let τ = task l i in
+      let k = present p l t i in
       let W = x .working i il h in
-      rw (W .key-is) (key-small p t i (present p l t i) il (omega (arith, W .last)) q)
+      let r : release τ k ≤ t = upTo-iff (τ .offset) (τ .period) (ok .fine i il .live) t k .0 (omega (arith, W .last)) in
+      rw (W .key-is) (key-small p i (release τ k) il (omega arith))
 
   module _ {p : Policy} {t : ℕ} {owed next dues keys : List ℕ} {chosen : ℕ} (I : Instant p l t owed next dues keys chosen) where
     -- something is owed to the chosen task
@@ -100,13 +118,7 @@ module _ {l : List Task} {n : ℕ} {run deadline period : List ℕ} (L : Loaded 
       ]
 
       pub fitting : t < plenty → Fitting n (t + 1) run deadline period owed₁ next
-      fitting q i b e =
-          let il : i < length l = omega (arith, L .counted) in
-          let F = ok .fine i il in (
-            omega (arith, one-job i il, L .unpacked .run-is i il, F .fits, F .within, F .short),
-            omega (arith, L .unpacked .period-is i il, F .short),
-            omega (arith, L .unpacked .deadline-is i il, F .within, F .short),
-          )
+      fitting q = fits owed₁ next (t + 1) (omega arith) one-job
 
       module _ {missed : ℕ} (f : First (Late owed₁ dues (t + 1)) n missed) where
         first-is : First (Late owed₁ dues (suc t)) (length l) missed
@@ -130,7 +142,7 @@ module _ {l : List Task} {n : ℕ} {run deadline period : List ℕ} (L : Loaded 
             sized = rel .sized;
             kept = kept₂;
             clear = clear₁ on;
-            is-chosen = picked-is p w (suc t) owed₂ next₂ dues₂ keys₂ kept₂ following (rw (L .counted) at k);
+            is-chosen = picked-is p w (suc t) owed₂ next₂ dues₂ keys₂ kept₂ short-deadlines following (rw (L .counted) at k);
           }
 
           -- a preemption is counted where there is one

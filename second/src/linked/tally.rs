@@ -9,7 +9,7 @@ use crate::verdict::Verdict;
 use std::collections::HashSet;
 
 /// Each line of the table, and whether a run without it fails.
-const LINES: [(&str, bool); 46] = [
+const LINES: [(&str, bool); 47] = [
     ("refused 1", true),
     ("refused 1, no task", true),
     ("refused 1, 17 tasks", true),
@@ -49,6 +49,7 @@ const LINES: [(&str, bool); 46] = [
     ("H exactly 16,384, not refused", false),
     ("M exactly 16,384, not refused", false),
     ("preemption at M + 2H", true),
+    ("EDF, an earlier release before a lower task", true),
     ("load exactly H, feasible", true),
     ("one task, feasible", true),
     ("16 tasks, feasible", true),
@@ -83,15 +84,15 @@ impl Tally {
                 self.counts.note("overloaded");
                 self.counts
                     .note_if(load == hyperperiod + 1, "overloaded by one slot");
-                self.add_list(case);
+                self.add_list(case, verdict);
             }
             Answer::Missed { instant, .. } => {
                 self.add_missed(case, instant);
-                self.add_list(case);
+                self.add_list(case, verdict);
             }
             Answer::Feasible { .. } => {
                 self.add_feasible(case, verdict);
-                self.add_list(case);
+                self.add_list(case, verdict);
             }
         }
     }
@@ -180,7 +181,11 @@ impl Tally {
     }
 
     /// What is noted of every list that is not refused.
-    fn add_list(&mut self, case: &Case) {
+    fn add_list(&mut self, case: &Case, verdict: &Verdict) {
+        self.counts.note_if(
+            verdict.release_decided,
+            "EDF, an earlier release before a lower task",
+        );
         let (startup, hyperperiod) = needed(case);
         let offset = startup - hyperperiod;
         self.seen.insert((case.policy, case.list.clone()));
