@@ -8,17 +8,17 @@ use native.Mathlib.Omega.{arith}
 use Rattle.task.specs.declared.Task.{Task}
 use Rattle.schedule.specs.declared.Policy.{Policy}
 use Rattle.schedule.specs.declared.Policy.the-variants.{ListOrder}
-use Rattle.state.specs.State.{at, packed, KeptAt, First, Picked}
+use Rattle.state.specs.State.{at, KeptAt, First, Picked}
 use Rattle.state.specs.Engine.{Loaded}
 
--- what is kept under list order has each ready task's number, and nothing more, for its key
+-- what is kept under list order has each ready task's number for its key
 pub keys-listed : {l : List Task} {n : ℕ} {run deadline period : List ℕ} {p : Policy} {t : ℕ} {owed next dues keys : List ℕ} →
-    Loaded l n run deadline period → KeptAt p l t owed next dues keys → p ≡ ListOrder → (i : ℕ) → i < n → 0 < at owed i → at keys i ≡ packed (i, 0)
+    Loaded l n run deadline period → KeptAt p l t owed next dues keys → p ≡ ListOrder → (i : ℕ) → i < n → 0 < at owed i → at keys i ≡ i
 keys-listed {l} {t = t} {owed} {next} {dues} {keys} L x e i b h =
     let K : KeptAt ListOrder l t owed next dues keys = rw e at x in
     K .working i (omega (arith, L .counted)) h .key-is
 
-pub first-picked : {owed keys : List ℕ} {n r : ℕ} → ((i : ℕ) → i < n → 0 < at owed i → at keys i ≡ packed (i, 0)) → First (λ i. 0 < at owed i) n r →
+pub first-picked : {owed keys : List ℕ} {n r : ℕ} → ((i : ℕ) → i < n → 0 < at owed i → at keys i ≡ i) → First (λ i. 0 < at owed i) n r →
     Picked owed keys n r
 first-picked {owed} {keys} {n} {r} listed f = record {
   within = f .within;

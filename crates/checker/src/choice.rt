@@ -3,7 +3,7 @@ ghost use mathlib.Core.Path.{_≡_};
 ghost use Prim.Native.Nat.{ℕ, _≤_, _<_};
 ghost use Rattle.task.specs.Limits.{largest, mostTasks};
 ghost use Rattle.schedule.specs.declared.Policy.the-variants.{ListOrder};
-ghost use Rattle.state.specs.State.{at, packed, First, Picked};
+ghost use Rattle.state.specs.State.{at, First, Picked};
 use crate::part::pick;
 use schedule::Policy;
 use task::Task;
@@ -17,7 +17,7 @@ pub(crate) fn choose(
 ) -> usize
     requires { ⌜ n ≤ mostTasks ⌝ }
     requires { ⌜ ((i : ℕ) → i < n → 0 < at (now owed) i → at (now keys) i < largest) ⌝ }
-    requires { ⌜ (policy ≡ ListOrder → (i : ℕ) → i < n → 0 < at (now owed) i → at (now keys) i ≡ packed (i, 0)) ⌝ }
+    requires { ⌜ (policy ≡ ListOrder → (i : ℕ) → i < n → 0 < at (now owed) i → at (now keys) i ≡ i) ⌝ }
     ensures { λ r. ⌜ Picked (now (owed .entry)) (now (keys .entry)) n r ⌝ }
 {
     if let Policy::ListOrder = policy {

@@ -1,7 +1,6 @@
 // The checker: a list, a policy and two lent buffers in, the answer and the tables out. Document 01, "What comes back".
 mod choice;
 mod judge;
-mod order;
 mod part;
 mod release;
 mod start;

@@ -1,8 +1,11 @@
-// The parts of one slot: who is next, and who is served.
-ghost use Prim.Native.Nat.{ℕ, _≤_, _<_};
+// The parts of one slot: who is next, who is served, and by which key.
+ghost use mathlib.Core.Path.{_≡_};
+ghost use Prim.Native.Nat.{ℕ, _+_, _≤_, _<_};
 ghost use lib.ListN.{length};
 ghost use Rattle.task.specs.Limits.{largest, mostTasks};
-ghost use Rattle.state.specs.State.{at, Picked, Served};
+ghost use Rattle.schedule.specs.Job.{keyFrom};
+ghost use Rattle.state.specs.State.{at, packed, Picked, Served, farthest};
+use schedule::Policy;
 use task::Task;
 
 // The task whose job goes first: the least key, the lower number where keys are equal; n where no job is ready.
@@ -40,4 +43,24 @@ pub(crate) fn serve(owed: &mut [usize; Task::MOST], n: usize, chosen: usize) -> 
         return n;
     }
     chosen
+}
+
+// What the policy orders a job by, as one number: the one place that knows the four keys.
+pub(crate) fn key(
+    policy: Policy,
+    number: usize,
+    period: usize,
+    deadline: usize,
+    release: usize,
+) -> usize
+    requires { ⌜ release + deadline < farthest ⌝ }
+    ensures { λ r. ⌜ r ≡ packed policy (keyFrom policy number period deadline release) ⌝ }
+{
+    match policy {
+        Policy::ListOrder => number,
+        Policy::RateMonotonic => period,
+        Policy::DeadlineMonotonic => deadline,
+        // No more than the longest period lies between the two, so the sum is in the order of both.
+        Policy::Edf => (release + deadline) * Task::LONGEST_PERIOD + release,
+    }
 }

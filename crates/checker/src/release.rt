@@ -3,7 +3,7 @@ ghost use mathlib.Core.Path.{_≡_};
 ghost use Prim.Native.Nat.{_+_, _^_, _≤_, _<_};
 ghost use Rattle.task.specs.Limits.{mostTasks};
 ghost use Rattle.state.specs.State.{at, First, Late, farthest, Fitting, Sized, Stored, AllReleased};
-use crate::order::key;
+use crate::part::key;
 use schedule::Policy;
 use task::Task;
 
@@ -52,7 +52,7 @@ fn release_one(
     keys: &mut [usize; Task::MOST],
 )
     requires { ⌜ i < mostTasks ⌝ }
-    requires { ⌜ (at (now next) i ≡ t → (at (now owed) i + at (now run) i < 2 ^ 64) × (t + at (now period) i < farthest) × (t + at (now deadline) i < farthest)) ⌝ }
+    requires { ⌜ (at (now next) i ≡ t → (at (now owed) i + at (now run) i < 2 ^ 64) × (t + at (now period) i < 2 ^ 64) × (t + at (now deadline) i < farthest)) ⌝ }
     ensures { λ _. ⌜ Stored policy i t (now (run .entry)) (now (deadline .entry)) (now (period .entry)) (now (owed .entry)) (now (next .entry)) (now (dues .entry)) (now (keys .entry)) (now (owed .exit)) (now (next .exit)) (now (dues .exit)) (now (keys .exit)) ⌝ }
 {
     if next[i] != t {

@@ -70,7 +70,7 @@ module _ (p : Policy) {l : List Task} {H : ℕ} (w : Sound l H) where
         key-ahead a b ne =
             let i : ℕ = pickAt p l t in
             rw (x .working i a (owed-waits i a .1 (R .ready t a)) .key-is, x .working r b (k .waits b) .key-is)
-            (packed-ahead p l short i (present p l t i) r (present p l t r) b (R .first t r a b ne (owed-waits r b .0 (k .waits b))))
+            (packed-ahead l short p i (present p l t i) r (present p l t r) b (R .first t r a b ne (owed-waits r b .0 (k .waits b))))
 
         -- of two that differ neither goes before the other
         clash : pickAt p l t < length l → r < length l → (r ≡ pickAt p l t → ⊥) → ⊥
@@ -194,7 +194,7 @@ module _ (p : Policy) {l : List Task} {H : ℕ} (w : Sound l H) where
         works = λ h. record {
           last = ap suc k ∙ sym g;
           due-is = R .2 ∙ rw (u .deadline-is i b) (ap (λ (r : ℕ). r + τ .deadline) its-release);
-          key-is = R .3 ∙ rw (u .period-is i b, u .deadline-is i b) (ap (λ (r : ℕ). packed (keyFrom p i (τ .period) (τ .deadline) r)) its-release);
+          key-is = R .3 ∙ rw (u .period-is i b, u .deadline-is i b) (ap (λ (r : ℕ). packed p (keyFrom p i (τ .period) (τ .deadline) r)) its-release);
         };
       }
         where
@@ -202,7 +202,7 @@ module _ (p : Policy) {l : List Task} {H : ℕ} (w : Sound l H) where
           τ = task l i
 
           R : (at owed′ i ≡ at owed i + at run i) × (at next′ i ≡ t + at period i) × (at dues′ i ≡ t + at deadline i)
-              × (at keys′ i ≡ packed (keyFrom p i (at period i) (at deadline i) t))
+              × (at keys′ i ≡ packed p (keyFrom p i (at period i) (at deadline i) t))
           R = rel i b .now e
 
           none : at owed i ≡ 0

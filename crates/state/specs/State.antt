@@ -11,6 +11,7 @@ use Rattle.task.specs.declared.Task.{Task}
 use Rattle.task.specs.Limits.{mostTasks, longestPeriod}
 use Rattle.task.specs.Tasks.{task}
 use Rattle.schedule.specs.declared.Policy.{Policy}
+use Rattle.schedule.specs.declared.Policy.the-variants.{ListOrder, RateMonotonic, DeadlineMonotonic, Edf}
 use Rattle.schedule.specs.Job.{release, due, one-if, Key, keyFrom, keyOf, Miss}
 use Rattle.schedule.specs.Endless.{arrived, served, endless}
 
@@ -48,15 +49,18 @@ abbrev pub before : Task → ℕ → ℕ
 before τ zero = 0
 before τ (suc t) = arrived τ t
 
--- a key as one number. No job is released more than the longest period before it is due, so the order stays (`packed-smaller`)
-abbrev pub packed : Key → ℕ
-packed a = a .0 * longestPeriod + a .1
+-- a key as one number. Under EDF it is made of both, in their order (`packed-smaller`); the other policies have one
+abbrev pub packed : Policy → Key → ℕ
+packed ListOrder a = a .0
+packed RateMonotonic a = a .0
+packed DeadlineMonotonic a = a .0
+packed Edf a = a .0 * longestPeriod + a .1
 
 -- a job of task i is unfinished: it is the last of the a jobs released, and its instant due and its key are kept
 pub record Working (p : Policy) (l : List Task) (a t i d k : ℕ) : Type 0 where
   pub last : suc (present p l t i) ≡ a
   pub due-is : d ≡ due (task l i) (present p l t i)
-  pub key-is : k ≡ packed (keyOf p i (task l i) (present p l t i))
+  pub key-is : k ≡ packed p (keyOf p i (task l i) (present p l t i))
 
 -- what is kept where a i jobs of task i are released and the slots before t are given: for each task the slots owed, the next release,
 -- and, where something is owed, the instant due and the key of its job
@@ -103,17 +107,17 @@ pub record Served (n c : ℕ) (owed owed′ : List ℕ) (r : ℕ) : Type 0 where
 -- what a release at t makes of the four numbers of task i
 pub record Released (p : Policy) (i run deadline period t owed next d k owed′ next′ d′ k′ : ℕ) : Type 0 where
   pub now : next ≡ t →
-      (owed′ ≡ owed + run) × (next′ ≡ t + period) × (d′ ≡ t + deadline) × (k′ ≡ packed (keyFrom p i period deadline t))
+      (owed′ ≡ owed + run) × (next′ ≡ t + period) × (d′ ≡ t + deadline) × (k′ ≡ packed p (keyFrom p i period deadline t))
   pub not-now : (next ≡ t → ⊥) → (owed′ ≡ owed) × (next′ ≡ next) × (d′ ≡ d) × (k′ ≡ k)
 
--- a key whose instants are below this does not wrap
+-- no key of a job that is due before this wraps
 abbrev pub farthest : ℕ
 farthest = 2 ^ 40
 
 -- no sum of a release at t wraps
 abbrev pub Fitting : ℕ → ℕ → List ℕ → List ℕ → List ℕ → List ℕ → List ℕ → Type 0
 Fitting n t run deadline period owed next = (i : ℕ) → i < n → at next i ≡ t →
-    (at owed i + at run i < 2 ^ 64) × (t + at period i < farthest) × (t + at deadline i < farthest)
+    (at owed i + at run i < 2 ^ 64) × (t + at period i < 2 ^ 64) × (t + at deadline i < farthest)
 
 -- one number of an array stored, if a test holds
 abbrev pub setIf : Bool → List ℕ → ℕ → ℕ → List ℕ
@@ -125,7 +129,7 @@ pub record Stored (p : Policy) (i t : ℕ) (run deadline period owed next dues k
   pub owed-stored : owed′ ≡ setIf (eqb (at next i) t) owed i (at owed i + at run i)
   pub next-stored : next′ ≡ setIf (eqb (at next i) t) next i (t + at period i)
   pub dues-stored : dues′ ≡ setIf (eqb (at next i) t) dues i (t + at deadline i)
-  pub keys-stored : keys′ ≡ setIf (eqb (at next i) t) keys i (packed (keyFrom p i (at period i) (at deadline i) t))
+  pub keys-stored : keys′ ≡ setIf (eqb (at next i) t) keys i (packed p (keyFrom p i (at period i) (at deadline i) t))
 
 -- what the releases at t make of the first n tasks
 pub record AllReleased (p : Policy) (n t : ℕ) (run deadline period owed next dues keys owed′ next′ dues′ keys′ : List ℕ) : Type 0 where

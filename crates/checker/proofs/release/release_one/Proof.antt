@@ -80,8 +80,7 @@ element-copy-out-key-2 c = search needs
 key-requires : tie.Need-key-requires
 key-requires c κs =
     let x = c .before .before .before .before .before .before .before .before in
-    let h = x .pre .1 (c .before .before .before .before .before .before .if1 .left) in
-    (x .pre .0, h .1, h .2)
+    x .pre .1 (c .before .before .before .before .before .before .if1 .left) .2
 
 mul-keys : tie.Need-mul-keys
 mul-keys c = search needs
