@@ -14,7 +14,8 @@
 extern "C" {
 #endif
 
-/* Who gets the slot. Equal keys go to the lower task; before that, under EDF, equal due instants go to the earlier release. */
+/* Who gets the slot: by task number, by the shorter period, by the shorter deadline, or by the earlier instant due and then
+   the earlier release. What is still equal goes to the lower task number. */
 #define SHOLAKPITE_LIST_ORDER 0
 #define SHOLAKPITE_RATE_MONOTONIC 1
 #define SHOLAKPITE_DEADLINE_MONOTONIC 2

@@ -49,8 +49,8 @@ pub struct Task {
     pub period: u64,
 }
 
-/// Who gets the slot, by the number that C calls it by. Equal keys go to the lower task; before that, under EDF, equal due instants
-/// go to the earlier release.
+/// Who gets the slot, by the number that C calls it by. Equal ones go to the lower task number, under EDF after the earlier
+/// release.
 #[derive(Clone, Copy, Debug, PartialEq, Eq)]
 pub enum Policy {
     ListOrder = 0,

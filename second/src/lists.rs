@@ -187,7 +187,6 @@ fn set_deadlines(random: &mut Random, tasks: &mut [Task]) {
 
 fn set_offsets(random: &mut Random, tasks: &mut [Task], hyperperiod: u64) {
     let style = random.below(60);
-    let anchor = random.below(hyperperiod);
     let one = random.index(tasks.len());
     let latest = tasks.iter().map(|task| task.deadline).max().unwrap_or(0);
     for (i, task) in tasks.iter_mut().enumerate() {
@@ -195,13 +194,11 @@ fn set_offsets(random: &mut Random, tasks: &mut [Task], hyperperiod: u64) {
             0..=11 => 0,
             12..=23 => random.below(task.period),
             24..=29 => random.between(0, hyperperiod),
-            // Every first job is due at the same instant.
-            30..=34 => latest - task.deadline,
-            35..=41 => random.between(0, 3 * hyperperiod),
-            42..=48 if i == one => hyperperiod + random.between(1, hyperperiod),
-            42..=48 => random.below(task.period),
-            // Many jobs of different releases are due at the same instant.
-            49..=58 => (anchor + task.period - task.deadline) % task.period,
+            // Every first job is due at the same instant, so releases that differ decide often.
+            30..=44 => latest - task.deadline,
+            45..=51 => random.between(0, 3 * hyperperiod),
+            52..=58 if i == one => hyperperiod + random.between(1, hyperperiod),
+            52..=58 => random.below(task.period),
             _ if i == one => random.between(MOST_OFFSET - 3, MOST_OFFSET),
             _ => random.between(0, MOST_OFFSET),
         };

@@ -34,21 +34,16 @@ pub fn preemptions(slots: &Slots, tasks: &[Task]) -> Vec<u64> {
     instants
 }
 
-/// Preemptions for a job that is not due earlier than the one set aside: EDF has none.
-pub fn pointless<'a>(
-    slots: &'a Slots,
-    tasks: &'a [Task],
-    preemptions: &'a [u64],
-) -> impl Iterator<Item = String> + 'a {
-    let due = |t: u64| slots[t as usize].map(|served| due(&tasks[served.task], served.number));
-    preemptions
-        .iter()
-        .filter(move |&&t| due(t) >= due(t - 1))
-        .map(|t| format!("the preemption at {t} is for a job that is not due earlier"))
-}
-
-fn due(task: &Task, number: u64) -> u64 {
-    task.offset + number * task.period + task.deadline
+/// The preemptions for a job that is not due earlier than the one set aside: EDF has none.
+pub fn pointless(slots: &Slots, tasks: &[Task]) -> Vec<u64> {
+    let due_at = |t: u64| {
+        slots[t as usize].map(|Served { task, number }| {
+            tasks[task].offset + number * tasks[task].period + tasks[task].deadline
+        })
+    };
+    let mut instants = preemptions(slots, tasks);
+    instants.retain(|&t| due_at(t) >= due_at(t - 1));
+    instants
 }
 
 /// How many slots job `number` has had so far; jobs never served have had 0.
@@ -92,9 +87,9 @@ mod tests {
         let tasks = tasks_of(&[1, 1, 3, 4, 0, 2, 4, 4]);
         let job = |task| Some(Served { task, number: 0 });
         let slots = [job(1), job(0), job(1)];
-        assert_eq!(pointless(&slots, &tasks, &[1]).count(), 1);
+        assert_eq!(pointless(&slots, &tasks), [1]);
         let sooner = tasks_of(&[1, 1, 2, 4, 0, 2, 4, 4]);
-        assert_eq!(pointless(&slots, &sooner, &[1]).count(), 0);
+        assert_eq!(pointless(&slots, &sooner), []);
     }
 
     #[test]

@@ -62,10 +62,17 @@ pub fn judge(case: &Case) -> Verdict {
 fn judge_walk(policy: Policy, tasks: &[Task], hyperperiod: u64) -> Verdict {
     let repeats = paper::largest_offset(tasks) + hyperperiod;
     let walk = walk::walk(policy, tasks, repeats + 3 * hyperperiod);
-    match walk.miss {
+    let mut verdict = match walk.miss {
         Some(miss) => missed(&walk, miss, repeats, hyperperiod),
-        None => feasible(policy, &walk, tasks, hyperperiod),
+        None => feasible(&walk, tasks, hyperperiod),
+    };
+    if policy == Policy::EarliestDeadlineFirst {
+        for t in readoff::pointless(&walk.slots, tasks) {
+            let why = format!("the preemption at {t} is for a job that is not due earlier");
+            verdict.broken.push(why);
+        }
     }
+    verdict
 }
 
 fn missed(walk: &Walk, miss: Miss, repeats: u64, hyperperiod: u64) -> Verdict {
@@ -89,7 +96,7 @@ fn missed(walk: &Walk, miss: Miss, repeats: u64, hyperperiod: u64) -> Verdict {
     }
 }
 
-fn feasible(policy: Policy, walk: &Walk, tasks: &[Task], hyperperiod: u64) -> Verdict {
+fn feasible(walk: &Walk, tasks: &[Task], hyperperiod: u64) -> Verdict {
     let largest_offset = paper::largest_offset(tasks);
     let repeats = largest_offset + hyperperiod;
     let end = repeats + hyperperiod;
@@ -105,12 +112,8 @@ fn feasible(policy: Policy, walk: &Walk, tasks: &[Task], hyperperiod: u64) -> Ve
         idle: [readoff::idle(&startup), readoff::idle(&cycle)],
         preemptions: [in_startup, instants.len() as u64 - in_startup],
     };
-    let mut broken = broken_claims(walk, tasks, hyperperiod, readoff::idle(&cycle));
-    if policy == Policy::EarliestDeadlineFirst {
-        broken.extend(readoff::pointless(&walk.slots, tasks, &instants));
-    }
     Verdict {
-        broken,
+        broken: broken_claims(walk, tasks, hyperperiod, readoff::idle(&cycle)),
         startup,
         cycle,
         release_decided: walk.release_decided,

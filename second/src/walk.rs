@@ -112,11 +112,15 @@ fn key(policy: Policy, task: &Task, job: &Job) -> ([u64; 2], usize) {
     (numbers, job.task)
 }
 
-/// A job of a lower task that is due at the same instant waits as well.
+/// A job of a lower task waits as well that is due at the same instant and was released later.
 fn passes_lower_task(jobs: &[Job], chosen: usize, instant: u64) -> bool {
     let chosen = &jobs[chosen];
-    jobs.iter()
-        .any(|job| job.ready(instant) && job.due == chosen.due && job.task < chosen.task)
+    jobs.iter().any(|job| {
+        job.ready(instant)
+            && job.due == chosen.due
+            && job.release > chosen.release
+            && job.task < chosen.task
+    })
 }
 
 #[cfg(test)]
@@ -138,31 +142,35 @@ mod tests {
         assert_eq!(walk.slots.len(), 2);
     }
 
-    fn served(policy: Policy, tasks: &[u64], last: u64) -> Vec<Option<usize>> {
-        let walk = walk(policy, &tasks_of(tasks), last);
-        walk.slots.iter().map(|s| s.map(|s| s.task)).collect()
+    /// Who has slots 0 to 3, and whether a release decided.
+    fn first_slots(policy: Policy, tasks: &[u64]) -> (Vec<Option<usize>>, bool) {
+        let walk = walk(policy, &tasks_of(tasks), 3);
+        let served = walk.slots.iter().map(|slot| slot.map(|job| job.task));
+        (served.collect(), walk.release_decided)
     }
 
     #[test]
     fn equal_instants_due_go_to_the_earlier_release() {
-        let tasks = [1, 1, 2, 4, 0, 2, 3, 4];
-        let slots = served(Policy::EarliestDeadlineFirst, &tasks, 3);
+        let (slots, decided) =
+            first_slots(Policy::EarliestDeadlineFirst, &[1, 1, 2, 4, 0, 2, 3, 4]);
         assert_eq!(slots, [Some(1), Some(1), Some(0), None]);
+        assert!(decided);
     }
 
     #[test]
     fn equal_instants_due_and_releases_go_by_task_number() {
-        let tasks = [0, 1, 3, 4, 0, 2, 3, 4];
-        let slots = served(Policy::EarliestDeadlineFirst, &tasks, 3);
+        let (slots, decided) =
+            first_slots(Policy::EarliestDeadlineFirst, &[0, 1, 3, 4, 0, 2, 3, 4]);
         assert_eq!(slots, [Some(0), Some(1), Some(1), None]);
+        assert!(!decided);
     }
 
     #[test]
     fn other_equal_keys_go_by_task_number_whatever_the_release() {
-        let tasks = [1, 1, 4, 4, 0, 2, 4, 4];
         for policy in [Policy::RateMonotonic, Policy::DeadlineMonotonic] {
-            let slots = served(policy, &tasks, 3);
+            let (slots, decided) = first_slots(policy, &[1, 1, 4, 4, 0, 2, 4, 4]);
             assert_eq!(slots, [Some(1), Some(0), Some(1), None]);
+            assert!(!decided);
         }
     }
 }

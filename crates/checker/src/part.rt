@@ -52,15 +52,16 @@ pub(crate) fn key(
     period: usize,
     deadline: usize,
     release: usize,
+    due: usize,
 ) -> usize
-    requires { ⌜ release + deadline < farthest ⌝ }
-    ensures { λ r. ⌜ r ≡ packed policy (keyFrom policy number period deadline release) ⌝ }
+    requires { ⌜ (due ≡ release + deadline) × (due < farthest) ⌝ }
+    ensures { λ r. ⌜ r ≡ packed policy (keyFrom policy number period deadline release due) ⌝ }
 {
     match policy {
         Policy::ListOrder => number,
         Policy::RateMonotonic => period,
         Policy::DeadlineMonotonic => deadline,
         // No more than the longest period lies between the two, so the sum is in the order of both.
-        Policy::Edf => (release + deadline) * Task::LONGEST_PERIOD + release,
+        Policy::Edf => due * Task::LONGEST_PERIOD + release,
     }
 }

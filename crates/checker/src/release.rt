@@ -62,5 +62,5 @@ fn release_one(
     owed[i] = owed[i] + run[i];
     next[i] = t + period[i];
     dues[i] = due;
-    keys[i] = key(policy, i, period[i], deadline[i], t);
+    keys[i] = key(policy, i, period[i], deadline[i], t, due);
 }

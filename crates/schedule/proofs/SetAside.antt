@@ -21,7 +21,7 @@ module _ (p : Policy) (l : List Task) (σ : Choice) (f : Follows p l σ) (t i k 
   second = rw then at (f (suc t))
 
   -- the job set aside is still ready, so the one that takes its place goes before it
-  pub aside-ahead : Ahead p l j m i k
+  aside-ahead : Ahead p l j m i k
   aside-ahead = go (ahead-total p l j m i k)
     where
       go : Ahead p l j m i k ⊎ (Ahead p l i k j m ⊎ ((j ≡ i) × (m ≡ k))) → Ahead p l j m i k
@@ -30,7 +30,7 @@ module _ (p : Policy) (l : List Task) (σ : Choice) (f : Follows p l σ) (t i k 
       go (inr (inr e)) = absurd (other (sym (e .0)) (sym (e .1)))
 
   -- and it was not there a slot before
-  pub aside-new : release (task l j) m ≡ suc t
+  aside-new : release (task l j) m ≡ suc t
   aside-new = elim (decLt t (release (task l j) m)) [
     | yes h ↦ omega (arith, second .0 .released)
     | no h ↦ absurd (first .1 j m (record { listed = second .0 .listed; released = omega arith; unfinished = omega (arith, second .0 .unfinished) }) aside-ahead)

@@ -194,7 +194,7 @@ module _ (p : Policy) {l : List Task} {H : ℕ} (w : Sound l H) where
         works = λ h. record {
           last = ap suc k ∙ sym g;
           due-is = R .2 ∙ rw (u .deadline-is i b) (ap (λ (r : ℕ). r + τ .deadline) its-release);
-          key-is = R .3 ∙ rw (u .period-is i b, u .deadline-is i b) (ap (λ (r : ℕ). packed p (keyFrom p i (τ .period) (τ .deadline) r)) its-release);
+          key-is = R .3 ∙ rw (u .period-is i b, u .deadline-is i b) (ap (λ (r : ℕ). packed p (keyFrom p i (τ .period) (τ .deadline) r (r + τ .deadline))) its-release);
         };
       }
         where
@@ -202,7 +202,7 @@ module _ (p : Policy) {l : List Task} {H : ℕ} (w : Sound l H) where
           τ = task l i
 
           R : (at owed′ i ≡ at owed i + at run i) × (at next′ i ≡ t + at period i) × (at dues′ i ≡ t + at deadline i)
-              × (at keys′ i ≡ packed p (keyFrom p i (at period i) (at deadline i) t))
+              × (at keys′ i ≡ packed p (keyFrom p i (at period i) (at deadline i) t (t + at deadline i)))
           R = rel i b .now e
 
           none : at owed i ≡ 0

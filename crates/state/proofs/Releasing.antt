@@ -48,7 +48,7 @@ module _ (p : Policy) (run deadline period owed₀ next₀ dues₀ keys₀ : Lis
         r = h .rest i (omega arith)
 
         now : at next₀ i ≡ t → (at owed′ i ≡ at owed₀ i + at run i) × (at next′ i ≡ t + at period i) × (at dues′ i ≡ t + at deadline i)
-            × (at keys′ i ≡ packed p (keyFrom p i (at period i) (at deadline i) t))
+            × (at keys′ i ≡ packed p (keyFrom p i (at period i) (at deadline i) t (t + at deadline i)))
         now e =
             let q : eqb (at next i) t ≡ true = eq-eqb (at next i) t (r .1 ∙ e) in (
               ap (λ z. at z i) (rw q at (s .owed-stored)) ∙ getD-set-same owed i _ 0 (omega (arith, h .sized .owed-size)) ∙ ap (λ z. z + at run i) (r .0),
@@ -96,10 +96,10 @@ module _ (p : Policy) (i t : ℕ) (run deadline period owed next dues keys : Lis
         owed-stored = ap (λ b. setIf b owed i (at owed i + at run i)) q;
         next-stored = ap (λ b. setIf b next i (t + at period i)) q;
         dues-stored = ap (λ b. setIf b dues i (t + at deadline i)) q;
-        keys-stored = ap (λ b. setIf b keys i (packed p (keyFrom p i (at period i) (at deadline i) t))) q;
+        keys-stored = ap (λ b. setIf b keys i (packed p (keyFrom p i (at period i) (at deadline i) t (t + at deadline i)))) q;
       }
 
-  pub stored-now : at next i ≡ t → (k : ℕ) → k ≡ packed p (keyFrom p i (at period i) (at deadline i) t) →
+  pub stored-now : at next i ≡ t → (k : ℕ) → k ≡ packed p (keyFrom p i (at period i) (at deadline i) t (t + at deadline i)) →
       Stored p i t run deadline period owed next dues keys
       (set owed i (at owed i + at run i)) (set next i (t + at period i)) (set dues i (t + at deadline i)) (set keys i k)
   stored-now e k f =
@@ -108,5 +108,5 @@ module _ (p : Policy) (i t : ℕ) (run deadline period owed next dues keys : Lis
         owed-stored = ap (λ b. setIf b owed i (at owed i + at run i)) q;
         next-stored = ap (λ b. setIf b next i (t + at period i)) q;
         dues-stored = ap (λ b. setIf b dues i (t + at deadline i)) q;
-        keys-stored = ap (set keys i) f ∙ ap (λ b. setIf b keys i (packed p (keyFrom p i (at period i) (at deadline i) t))) q;
+        keys-stored = ap (set keys i) f ∙ ap (λ b. setIf b keys i (packed p (keyFrom p i (at period i) (at deadline i) t (t + at deadline i)))) q;
       }

@@ -43,13 +43,13 @@ module _ {l : List Task} {n : ℕ} {run deadline period : List ℕ} (L : Loaded 
 
   -- no key wraps, and none is the largest number
   key-small : (p : Policy) (i r : ℕ) → i < length l → r ≤ plenty →
-      packed p (keyFrom p i (task l i .period) (task l i .deadline) r) < largest
+      packed p (keyFrom p i (task l i .period) (task l i .deadline) r (r + task l i .deadline)) < largest
   key-small p i r b q = go p
     where
       F : Fine (task l i)
       F = ok .fine i b
 
-      go : (p : Policy) → packed p (keyFrom p i (task l i .period) (task l i .deadline) r) < largest
+      go : (p : Policy) → packed p (keyFrom p i (task l i .period) (task l i .deadline) r (r + task l i .deadline)) < largest
       go ListOrder = omega (arith, ok .few)
       go RateMonotonic = omega (arith, F .short)
       go DeadlineMonotonic = omega (arith, F .within, F .short)

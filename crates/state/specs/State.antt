@@ -107,14 +107,14 @@ pub record Served (n c : ℕ) (owed owed′ : List ℕ) (r : ℕ) : Type 0 where
 -- what a release at t makes of the four numbers of task i
 pub record Released (p : Policy) (i run deadline period t owed next d k owed′ next′ d′ k′ : ℕ) : Type 0 where
   pub now : next ≡ t →
-      (owed′ ≡ owed + run) × (next′ ≡ t + period) × (d′ ≡ t + deadline) × (k′ ≡ packed p (keyFrom p i period deadline t))
+      (owed′ ≡ owed + run) × (next′ ≡ t + period) × (d′ ≡ t + deadline) × (k′ ≡ packed p (keyFrom p i period deadline t (t + deadline)))
   pub not-now : (next ≡ t → ⊥) → (owed′ ≡ owed) × (next′ ≡ next) × (d′ ≡ d) × (k′ ≡ k)
 
--- no key of a job that is due before this wraps
+-- no job that the engine looks at is due later, and the key of one that is due before does not wrap: it is below 2 ^ 55
 abbrev pub farthest : ℕ
 farthest = 2 ^ 40
 
--- no sum of a release at t wraps
+-- nothing that a release at t makes wraps
 abbrev pub Fitting : ℕ → ℕ → List ℕ → List ℕ → List ℕ → List ℕ → List ℕ → Type 0
 Fitting n t run deadline period owed next = (i : ℕ) → i < n → at next i ≡ t →
     (at owed i + at run i < 2 ^ 64) × (t + at period i < 2 ^ 64) × (t + at deadline i < farthest)
@@ -129,7 +129,7 @@ pub record Stored (p : Policy) (i t : ℕ) (run deadline period owed next dues k
   pub owed-stored : owed′ ≡ setIf (eqb (at next i) t) owed i (at owed i + at run i)
   pub next-stored : next′ ≡ setIf (eqb (at next i) t) next i (t + at period i)
   pub dues-stored : dues′ ≡ setIf (eqb (at next i) t) dues i (t + at deadline i)
-  pub keys-stored : keys′ ≡ setIf (eqb (at next i) t) keys i (packed p (keyFrom p i (at period i) (at deadline i) t))
+  pub keys-stored : keys′ ≡ setIf (eqb (at next i) t) keys i (packed p (keyFrom p i (at period i) (at deadline i) t (t + at deadline i)))
 
 -- what the releases at t make of the first n tasks
 pub record AllReleased (p : Policy) (n t : ℕ) (run deadline period owed next dues keys owed′ next′ dues′ keys′ : List ℕ) : Type 0 where

@@ -16,14 +16,11 @@ enum-told-3 c = search needs
 enum-told-4 : tie.Need-enum-told-4
 enum-told-4 c = search needs
 
-add-result : tie.Need-add-result
-add-result c = search needs
-
 mul-result : tie.Need-mul-result
 mul-result c = search needs
 
-add-result-2 : tie.Need-add-result-2
-add-result-2 c = search needs
+add-result : tie.Need-add-result
+add-result c = search needs
 
 returns : tie.Need-returns
 returns c = search needs
@@ -45,9 +42,8 @@ key-spec =
     enum-told-2
     enum-told-3
     enum-told-4
-    add-result
     mul-result
-    add-result-2
+    add-result
     returns
     returns-2
     returns-3

@@ -1,4 +1,5 @@
 -- `release_one` meets its contract.
+use mathlib.Core.Path.{refl}
 use native.Mathlib.Omega.{arith}
 use Rattle.state.proofs.Releasing.{stored-not, stored-now}
 use borrow.Author.Needs.{needs}
@@ -80,7 +81,7 @@ element-copy-out-key-2 c = search needs
 key-requires : tie.Need-key-requires
 key-requires c κs =
     let x = c .before .before .before .before .before .before .before .before in
-    x .pre .1 (c .before .before .before .before .before .before .if1 .left) .2
+    (refl, x .pre .1 (c .before .before .before .before .before .before .if1 .left) .2)
 
 mul-keys : tie.Need-mul-keys
 mul-keys c = search needs
