@@ -49,13 +49,16 @@ pub struct Task {
     pub period: u64,
 }
 
-/// Who gets the slot, by the number that C calls it by. Equal ones go to the lower task number, under EDF after the earlier
-/// release.
+/// Who gets the slot, by the number that C calls it by. What is equal goes to the lower task number.
 #[derive(Clone, Copy, Debug, PartialEq, Eq)]
 pub enum Policy {
+    /// By task number.
     ListOrder = 0,
+    /// By the shorter period.
     RateMonotonic = 1,
+    /// By the shorter deadline.
     DeadlineMonotonic = 2,
+    /// By the earlier instant due, then by the earlier release.
     EarliestDeadlineFirst = 3,
 }
 
