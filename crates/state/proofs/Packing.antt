@@ -14,16 +14,18 @@ use Rattle.schedule.specs.Job.{Smaller, key}
 use Rattle.schedule.proofs.Keys.{aheadOf}
 use Rattle.state.specs.State.{packed}
 
+-- a key of one number is smaller by that
+one-number : (a b : ℕ) → Smaller (a, 0) (b, 0) → a < b
+one-number a b (inl x) = x
+one-number a b (inr x) = omega arith
+
 module _ (l : List Task) (short : (i : ℕ) → i < length l → task l i .deadline ≤ longestPeriod) where
   -- under EDF a release is at most the longest period before the instant due, so where that is sooner the release can't make up for it
   pub packed-smaller : (p : Policy) (i k j m : ℕ) → j < length l → Smaller (key p l i k) (key p l j m) →
       packed p (key p l i k) < packed p (key p l j m)
-  packed-smaller ListOrder i k j m b (inl x) = x
-  packed-smaller ListOrder i k j m b (inr x) = omega arith
-  packed-smaller RateMonotonic i k j m b (inl x) = x
-  packed-smaller RateMonotonic i k j m b (inr x) = omega arith
-  packed-smaller DeadlineMonotonic i k j m b (inl x) = x
-  packed-smaller DeadlineMonotonic i k j m b (inr x) = omega arith
+  packed-smaller ListOrder i k j m b x = one-number _ _ x
+  packed-smaller RateMonotonic i k j m b x = one-number _ _ x
+  packed-smaller DeadlineMonotonic i k j m b x = one-number _ _ x
   packed-smaller Edf i k j m b (inl x) = omega (arith, short j b)
   packed-smaller Edf i k j m b (inr x) = omega arith
 
