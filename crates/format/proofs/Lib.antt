@@ -1,0 +1,10 @@
+pub mod Lists
+pub mod Kept
+pub mod Carried
+pub mod Tests
+pub mod Copying
+pub mod Taking
+pub mod Laying
+pub mod Damaged
+pub mod Newest
+pub mod PowerCut

@@ -1,0 +1,4 @@
+pub mod Appending
+pub mod Handing
+pub mod Pinned
+pub mod PowerCut
