@@ -1,10 +1,4 @@
 pub mod Lists
-pub mod Kept
+pub mod CutBack
 pub mod Carried
-pub mod Tests
-pub mod Copying
-pub mod Taking
-pub mod Laying
-pub mod Damaged
-pub mod Newest
 pub mod PowerCut

@@ -11,18 +11,15 @@ use borrow.Author.Tests.{eq-eqb, le-ltb}
 use Rattle.format.specs.Blocks.{planBlocks, blocksFor, trailer, planBytes}
 use Rattle.format.specs.Newest.{plan, blockCount, startupLength, cycleLength, entriesLength, wrongCount, beforeStart, covered, entries, otherKind, nonzeroPad, isDamaged, planBefore, newestOf, newest, kept, allPlan, allZero, carried}
 use Rattle.format.proofs.Lists.{zeros-zero}
-use Rattle.format.proofs.Kept.{kept-torn, kept-whole}
+use Rattle.format.proofs.CutBack.{kept-torn, kept-whole}
 use Rattle.format.proofs.Carried.{blocks-length, blocks-kind, blocks-plan, blocks-carried}
 
 -- a log that ends with a trailer is read off it
-pub newest-of : (before trailer : List ℕ) → length trailer ≡ 64 → newestOf (before ++ trailer) ≡ planBefore before trailer
-newest-of before last e = go (before ++ last) refl
-  where
-    go : (l : List ℕ) → before ++ last ≡ l → newestOf l ≡ planBefore before last
-    go [] q = let z : length (before ++ last) ≡ 0 = ap length q in absurd (omega (arith, z, e, length-append before last))
-    go (b ∷ l) q =
-        let n : length (b ∷ l) - 64 ≡ length before = omega (arith, ap length q, e, length-append before last) in
-        rw (n, ← q, take-at before last (length before) refl, drop-at before last (length before) refl)
+newest-of : (before trailer : List ℕ) → length trailer ≡ 64 → newestOf (before ++ trailer) ≡ planBefore before trailer
+newest-of before last e =
+    let long : length (before ++ last) ≡ length before + 64 = length-append before last ∙ ap (λ (k : ℕ). length before + k) e in
+    let n : length (before ++ last) - 64 ≡ length before = omega (arith, long) in
+    rw (le-ltb (length (before ++ last)) 64 (omega (arith, long)), n, take-at before last (length before) refl, drop-at before last (length before) refl)
 
 -- a number is its low byte and its high byte
 two-bytes : (n : ℕ) → n % 256 + 256 * (n / 256) ≡ n

@@ -86,8 +86,7 @@ module _ (before trailer : List ℕ) where
 
 -- of a log that has been cut back: its last block is the trailer
 abbrev pub newestOf : List ℕ → Newest
-newestOf [] = none
-newestOf (b ∷ l) = planBefore (take (length (b ∷ l) - blockLength) (b ∷ l)) (drop (length (b ∷ l) - blockLength) (b ∷ l))
+newestOf log = cond (ltb (length log) blockLength) none (planBefore (take (length log - blockLength) log) (drop (length log - blockLength) log))
 
 abbrev pub newest : List ℕ → Newest
 newest log = newestOf (kept log)

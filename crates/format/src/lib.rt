@@ -1,1 +1,46 @@
-// A plan in the log, as bytes, and what is left of it after a power cut. It has no code: the log is read and appended to in `log`.
+// A plan in the log, as bytes: how many blocks it takes, and what is kept of a log after a power cut. Request #104.
+ghost use mathlib.Core.Path.{_≡_};
+ghost use lib.ListN.{length, take};
+ghost use Rattle.format.specs.Blocks.{blocksFor};
+ghost use Rattle.format.specs.Newest.{kept};
+
+pub const BLOCK: usize = 64;
+
+pub const CARRIED: usize = 63;
+
+pub const LARGEST: usize = 65535;
+
+pub const PLAN: u8 = 1;
+
+pub const TRAILER: u8 = 2;
+
+// How many blocks so many entries take: no sum on the way may wrap.
+pub fn blocks_for(entries: usize) -> usize
+    ensures { λ r. ⌜ r ≡ blocksFor entries ⌝ }
+{
+    entries / CARRIED + (entries % CARRIED + 62) / CARRIED
+}
+
+// How many bytes of a log are kept when it is cut back to just after its last trailer, or to nothing.
+pub fn kept(log: &[u8]) -> usize
+    ensures { λ r. ⌜ r ≡ length (kept (now (log .entry))) ⌝ }
+{
+    let mut n = log.len() / BLOCK;
+    while 0 < n {
+        if log[BLOCK * (n - 1)] == TRAILER {
+            return BLOCK * n;
+        }
+        n -= 1;
+    }
+    0
+}
+
+// The same of the bytes that are used, all of them where the count is above their number.
+pub fn start(log: &[u8], used: usize) -> usize
+    ensures { λ r. ⌜ r ≡ length (kept (take used (now (log .entry)))) ⌝ }
+{
+    if used < log.len() {
+        return kept(&log[..used]);
+    }
+    kept(log)
+}

@@ -1,4 +1,2 @@
-pub mod Appending
-pub mod Handing
 pub mod Pinned
 pub mod PowerCut

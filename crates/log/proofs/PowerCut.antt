@@ -11,30 +11,35 @@ use lib.Seq.{take-append-le, take-append-add, take-at}
 use borrow.Author.Tests.{ltb-false}
 use Rattle.format.specs.Blocks.{planBytes}
 use Rattle.format.specs.Newest.{plan, kept, newestOf, newest}
-use Rattle.format.proofs.Kept.{start-fits}
-use Rattle.format.proofs.Damaged.{or-none}
+use Rattle.format.proofs.CutBack.{kept-front, start-fits}
+use Rattle.unpacking.proofs.Damaged.{or-none}
 use Rattle.format.proofs.PowerCut.{kept-torn-plan, newest-plan}
-use Rattle.log.specs.declared.Appended.the-variants.{Used}
-use Rattle.log.specs.Log.{start, end, isFull, IsFull, IsAppended, AppendedAs}
+use Rattle.packing.specs.declared.Appended.the-variants.{Used}
+use Rattle.packing.specs.Packing.{end, isFull, IsFull, IsAppended}
+use Rattle.log.specs.Log.{start, AppendedAs}
 use Rattle.log.specs.PowerCut.{IsTorn, NothingLost}
 
 module _ (log : List ℕ) (count : ℕ) (startup cycle : List ℕ) (n : ℕ) (after : List ℕ) where
   -- where bytes used are answered, the plan fits and is there
   is-appended : AppendedAs log count startup cycle (Used n) after
-      → (isFull log count startup cycle ≡ false) × IsAppended log count startup cycle (Used n) after
-  is-appended = go (isFull log count startup cycle)
+      → (isFull log (start log count) startup cycle ≡ false) × IsAppended log (start log count) startup cycle (Used n) after
+  is-appended = go (isFull log (start log count) startup cycle)
     where
-      go : (b : Bool) → cond b (IsFull log count startup cycle (Used n) after) (IsAppended log count startup cycle (Used n) after)
-          → (b ≡ false) × IsAppended log count startup cycle (Used n) after
+      go : (b : Bool) → cond b (IsFull log (start log count) startup cycle (Used n) after) (IsAppended log (start log count) startup cycle (Used n) after)
+          → (b ≡ false) × IsAppended log (start log count) startup cycle (Used n) after
       go true x = let z : _≡_ {A = ℕ} 0 1 = cc (x .is-number) in absurd (omega arith)
       go false x = (refl, x)
 
-  module _ (fits : isFull log count startup cycle ≡ false) (x : IsAppended log count startup cycle (Used n) after) where
+  module _ (fits : isFull log (start log count) startup cycle ≡ false) (x : IsAppended log (start log count) startup cycle (Used n) after) where
     abbrev front : List ℕ
-    front = start log count
+    front = kept (take count log)
 
     abbrev bytes : List ℕ
     bytes = planBytes startup cycle
+
+    is-left : after ≡ front ++ bytes ++ drop (end log (start log count) startup cycle) log
+    is-left =
+        x .log-left ∙ ap (λ (l : List ℕ). l ++ bytes ++ drop (end log (start log count) startup cycle) log) (kept-front log count)
 
     is-end : n ≡ length front + length bytes
     is-end = cc (x .is-used)
@@ -47,20 +52,20 @@ module _ (log : List ℕ) (count : ℕ) (startup cycle : List ℕ) (n : ℕ) (af
 
     same-length : length after ≡ length log
     same-length =
-        ap length (x .log-left)
-        ∙ length-append (front ++ bytes) (drop (end log count startup cycle) log)
-        ∙ omega (arith, enough, start-fits log count, length-append front bytes, length-drop (end log count startup cycle) log)
+        ap length is-left
+        ∙ length-append (front ++ bytes) (drop (end log (start log count) startup cycle) log)
+        ∙ omega (arith, enough, start-fits log count, length-append front bytes, length-drop (end log (start log count) startup cycle) log)
 
     whole-bytes : take n after ≡ front ++ bytes
     whole-bytes =
-        ap (take n) (x .log-left)
-        ∙ take-at (front ++ bytes) (drop (end log count startup cycle) log) n (length-append front bytes ∙ sym is-end)
+        ap (take n) is-left
+        ∙ take-at (front ++ bytes) (drop (end log (start log count) startup cycle) log) n (length-append front bytes ∙ sym is-end)
 
     torn-bytes : (j : ℕ) → IsTorn log count startup cycle n after j → take j after ≡ front ++ take (j - length front) bytes
     torn-bytes j t =
         let e : length front + (j - length front) ≡ j = add-sub-of-le (t .begun) in
-        ap (take j) (x .log-left)
-        ∙ take-append-le j (front ++ bytes) (drop (end log count startup cycle) log) (omega (arith, t .not-whole, is-end, length-append front bytes))
+        ap (take j) is-left
+        ∙ take-append-le j (front ++ bytes) (drop (end log (start log count) startup cycle) log) (omega (arith, t .not-whole, is-end, length-append front bytes))
         ∙ ap (λ (k : ℕ). take k (front ++ bytes)) (sym e)
         ∙ take-append-add front bytes (j - length front)
 

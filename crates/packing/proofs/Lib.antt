@@ -1,0 +1,3 @@
+pub mod Laying
+pub mod Placing
+pub mod Pinned

@@ -1,0 +1,6 @@
+pub mod Tests
+pub mod Taking
+pub mod Damaged
+pub mod Newest
+pub mod Handing
+pub mod Pinned

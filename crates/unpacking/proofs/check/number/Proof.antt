@@ -1,0 +1,47 @@
+-- `number` meets its contract: each byte is below 256.
+use Prim.Native.Nat.{_+_}
+use native.Mathlib.Omega.{arith}
+use native.Mathlib.Numerals.{add-one}
+use borrow.Author.Needs.{needs}
+use Rattle.unpacking.proofs.check.number.Statement.{statement}
+use Rattle.unpacking.proofs.check.number.Tie as tie
+
+shared-slice-read-low : tie.Need-shared-slice-read-low
+shared-slice-read-low c = search needs
+
+cast-low : tie.Need-cast-low
+cast-low c = omega (arith, c .shared-slice-known .given (c .before .args .i))
+
+add-high : tie.Need-add-high
+add-high c = search needs
+
+shared-slice-read-high : tie.Need-shared-slice-read-high
+shared-slice-read-high c = search needs
+
+cast-high : tie.Need-cast-high
+cast-high c = omega (arith, c .shared-slice-known2 .given (c .before .before .args .i + 1))
+
+mul-result : tie.Need-mul-result
+mul-result c = omega (arith, c .shared-slice-known2 .given (c .before .before .args .i + 1))
+
+add-result : tie.Need-add-result
+add-result c =
+    omega (arith, c .before .shared-slice-known .given (c .before .before .args .i), c .shared-slice-known2 .given (c .before .before .args .i + 1))
+
+returns : tie.Need-returns
+returns c =
+    let x = c .before .before .args in
+    (rw add-one, omega (arith, c .before .shared-slice-known .given (x .i), c .shared-slice-known2 .given (x .i + 1)))
+
+pub number-spec : {M : Type 1} → statement M
+number-spec =
+    tie.close
+    (tie.spec
+    shared-slice-read-low
+    cast-low
+    add-high
+    shared-slice-read-high
+    cast-high
+    mul-result
+    add-result
+    returns)
