@@ -102,6 +102,62 @@ uint64_t sholakpite_answer(const uint8_t *input, size_t input_len, uint8_t *out,
  */
 uint64_t sholakpite_write(uint64_t policy, const uint64_t *list, size_t list_len, uint8_t *out, size_t out_len);
 
+/* The bytes of a block of a log, and the entries that a part of a plan may have in it. */
+#define SHOLAKPITE_BLOCK 64
+#define SHOLAKPITE_LONGEST_PART 65535
+
+/* The words that `lengths` needs at least. */
+#define SHOLAKPITE_LENGTHS 2
+
+/* What sholakpite_read answers where it hands over no plan; SHOLAKPITE_NOT_UNDERSTOOD too. */
+#define SHOLAKPITE_NO_PLAN 20
+#define SHOLAKPITE_LOG_DAMAGED 21
+#define SHOLAKPITE_BUFFER_SHORT 22
+
+/* What sholakpite_append answers where it appends nothing; any other answer is a multiple of 64. */
+#define SHOLAKPITE_NOT_APPENDED 23
+
+/*
+ * A log of plans, which survives a power cut.
+ *
+ * The log is blocks of 64 bytes. A plan is blocks whose first byte is 1 and whose other 63 bytes carry the startup entries,
+ * then the cycle entries, the rest 0. After them comes a trailer block: first byte 2, then three 16-bit numbers, low byte
+ * first: how many plan blocks to go back, startup length, cycle length; the rest is 0. A plan of no entries is a trailer
+ * alone, and the longest plan takes 133,248 bytes with its trailer.
+ *
+ * Power may fail after any byte; what is left is the bytes written so far. Whichever byte that is, what is left reads as
+ * before the append, until the last new byte is written; from then on it reads as the new plan.
+ */
+
+/*
+ * Appends a plan to the log that the first `used` bytes of log are; used above log_len means all of them.
+ *
+ * First the log is cut back to just after its last trailer, which is the last whole block whose first byte is 2, or to
+ * nothing where there is none. What the power left of an unfinished plan is written over from there.
+ *
+ * Answers how many bytes are used then: the new ones are the last 64 * ((startup_len + cycle_len + 62) / 63 + 1) of them,
+ * and all other bytes of log stay. Or 23, with nothing written, exactly when plan and trailer don't fit the room left from
+ * the cut to log_len, or startup_len or cycle_len is above 65,535. Pointers and regions as above.
+ */
+uint64_t sholakpite_append(uint8_t *log, size_t log_len, uint64_t used, const uint8_t *startup, size_t startup_len,
+                           const uint8_t *cycle, size_t cycle_len);
+
+/*
+ * Reads the newest plan that was fully written. log_len counts the used bytes alone.
+ *
+ * A part block at the end is dropped, and blocks are stepped back over to the last trailer. Answers 0, with the plan's parts
+ * in startup and cycle and their lengths in lengths[0] and lengths[1]; or
+ *   20  there is no trailer
+ *   21  the last trailer's block count isn't the two lengths' sum divided by 63, rounded up, or points before the start, or
+ *       covers a block of another kind or a nonzero byte past the entries, or the trailer's rest isn't 0
+ *   22  none of these, and startup or cycle is shorter than its part
+ *
+ * Or 4, looked at first, when lengths_len is below 2. Where the answer is not 0 nothing is written. Bytes past a part, and
+ * words of lengths past the second, stay. Pointers and regions as above.
+ */
+uint64_t sholakpite_read(const uint8_t *log, size_t log_len, uint8_t *startup, size_t startup_len, uint8_t *cycle,
+                         size_t cycle_len, uint64_t *lengths, size_t lengths_len);
+
 #ifdef __cplusplus
 }
 #endif

@@ -1,4 +1,4 @@
-//! Measures the library against the plain checkers, on the same lists and buffers.
+//! Measures the library against the plain checkers, on the same lists and buffers, and its logs against a plain copy.
 
 mod measure;
 

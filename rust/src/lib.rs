@@ -3,6 +3,7 @@
 //! A safe wrapper over functions that are written in Rattle and proved. Their declarations below are not proved: they are
 //! assumed to match, as include/sholakpite.h is.
 
+pub mod log;
 mod text;
 
 pub use text::{answer, write, write_words, LONGEST_INPUT, LONGEST_OUTPUT};

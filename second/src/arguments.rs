@@ -3,8 +3,8 @@
 use std::process::ExitCode;
 use std::str::FromStr;
 
-const USAGE: &str = "second [--seed N] [--lists N] [--texts N] [--say]\n\
-    (a run in which an answer never came fails, so fewer than some 20,000 lists or texts may; 0 leaves them out)\n\
+const USAGE: &str = "second [--seed N] [--lists N] [--texts N] [--logs N] [--say]\n\
+    (a run in which an answer never came fails, so fewer than some 20,000 lists, texts or logs may; 0 leaves them out)\n\
     second [--seed N] [--texts N] [--say] --through COMMAND [ARGS ..]\n\
     second --answer < TEXT\n\
     second --try \"POLICY O C D T O C D T ...\" [--startup N] [--cycle N] [--row N]";
@@ -12,7 +12,7 @@ const USAGE: &str = "second [--seed N] [--lists N] [--texts N] [--say]\n\
 pub struct Arguments {
     pub seed: u64,
     pub texts: u64,
-    /// Print every list and text before it is handed over, to find one that ends the program.
+    /// Print every list, text and log before it is handed over, to find one that ends the program.
     pub say: bool,
     pub asked: Asked,
 }

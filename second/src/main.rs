@@ -10,6 +10,7 @@ mod damage;
 mod findings;
 mod linked;
 mod lists;
+mod log;
 mod paper;
 mod random;
 mod readoff;

@@ -1,7 +1,8 @@
-//! The measurement: every list under every policy, in rounds.
+//! The measurement: every list under every policy, in rounds; then logs of plans.
 
 mod library;
 mod lists;
+mod logs;
 
 use bench::plain::{Answer, Policy, Task, plain_loop, plain_passes};
 use library::{Check, LIBRARIES};
@@ -48,6 +49,7 @@ pub fn all() {
             }
         }
     }
+    logs::all();
 }
 
 impl Bench {

@@ -11,9 +11,9 @@ use lib.Seq.{take-append-le, take-append-add, take-at}
 use borrow.Author.Tests.{ltb-false}
 use Rattle.format.specs.Blocks.{planBytes}
 use Rattle.format.specs.Newest.{plan, kept, newestOf, newest}
-use Rattle.format.proofs.CutBack.{kept-front, start-fits}
+use Rattle.format.proofs.CutBack.{kept-length, kept-front, start-fits}
 use Rattle.unpacking.proofs.Damaged.{or-none}
-use Rattle.format.proofs.PowerCut.{kept-torn-plan, newest-plan}
+use Rattle.format.proofs.PowerCut.{bytes-length, kept-torn-plan, newest-plan}
 use Rattle.packing.specs.declared.Appended.the-variants.{Used}
 use Rattle.packing.specs.Packing.{end, isFull, IsFull, IsAppended}
 use Rattle.log.specs.Log.{start, AppendedAs}
@@ -73,6 +73,13 @@ module _ (log : List ℕ) (count : ℕ) (startup cycle : List ℕ) (n : ℕ) (af
     kept-torn j t =
         ap kept (torn-bytes j t)
         ∙ kept-torn-plan (take count log) startup cycle (j - length front) (omega (arith, t .begun, t .not-whole, is-end))
+
+-- a log has whole blocks, so what is answered for C is never mistaken for a refusal
+pub never-23 : (log : List ℕ) (count : ℕ) (startup cycle : List ℕ) (n : ℕ) (after : List ℕ)
+    → AppendedAs log count startup cycle (Used n) after → n ≡ 23 → ⊥
+never-23 log count startup cycle n after h e =
+    let x = is-appended log count startup cycle n after h in
+    omega (arith, e, is-end log count startup cycle n after (x .0) (x .1), kept-length (take count log), bytes-length startup cycle)
 
 pub appended-newest : (log : List ℕ) (count : ℕ) (startup cycle : List ℕ) (n : ℕ) (after : List ℕ)
     → AppendedAs log count startup cycle (Used n) after → newest (take n after) ≡ plan startup cycle

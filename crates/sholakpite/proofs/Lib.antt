@@ -1,1 +1,2 @@
 pub mod TextCalls
+pub mod LogCalls

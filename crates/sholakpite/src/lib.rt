@@ -1,4 +1,5 @@
-// For callers in C and Rust: the checker over words, over task structs and over texts. include/sholakpite.h says the same for C.
+// For callers in C and Rust: the checker over words, over task structs and over texts, and the log of plans. include/sholakpite.h says the same for C.
+mod logs;
 mod texts;
 
 ghost use Rattle.words.specs.Words.{Answered, AnsweredWords};

@@ -4,6 +4,7 @@ use crate::arguments::{number, Given};
 
 pub struct Options {
     pub lists: u64,
+    pub logs: u64,
     pub tried: Option<Vec<u64>>,
     pub startup_len: Option<usize>,
     pub cycle_len: Option<usize>,
@@ -13,6 +14,7 @@ pub struct Options {
 pub fn read(given: &[Given]) -> Result<Options, String> {
     let mut options = Options {
         lists: 100_000,
+        logs: 20_000,
         tried: None,
         startup_len: None,
         cycle_len: None,
@@ -21,6 +23,7 @@ pub fn read(given: &[Given]) -> Result<Options, String> {
     for (name, value) in given {
         match name.as_str() {
             "--lists" => options.lists = number(value)?,
+            "--logs" => options.logs = number(value)?,
             "--try" => {
                 let list: Result<_, _> = value.split_whitespace().map(number).collect();
                 options.tried = Some(list?);

@@ -26,6 +26,10 @@ impl<W> Lent<W> {
 impl<W: Copy + PartialEq> Lent<W> {
     /// The first place that differs, counted from the front of the lent part.
     pub fn first_difference(&self, other: &Lent<W>) -> Option<(i64, W, W)> {
+        // Mostly there is none, and a whole comparison is quicker.
+        if self.all == other.all {
+            return None;
+        }
         let place = (0..self.all.len()).find(|&i| self.all[i] != other.all[i])?;
         let entry = place as i64 - self.start as i64;
         Some((entry, self.all[place], other.all[place]))
@@ -35,8 +39,10 @@ impl<W: Copy + PartialEq> Lent<W> {
 impl<W: Copy> Lent<W> {
     /// A lent part that holds these words.
     pub fn holding(random: &mut Random, words: &[W], fill: impl FnMut(&mut Random) -> W) -> Self {
-        let mut lent = lend(random, words.len(), fill);
-        lent.part_mut().copy_from_slice(words);
+        let mut lent = lend(random, 0, fill);
+        let (before, behind) = lent.all.split_at(lent.start);
+        lent.all = [before, words, behind].concat();
+        lent.len = words.len();
         lent
     }
 }

@@ -3,6 +3,7 @@
 mod arguments;
 mod compare;
 mod lent;
+mod logs;
 mod single;
 mod table;
 mod tally;
@@ -12,6 +13,7 @@ use crate::arguments::{not_understood, Arguments, Given};
 use crate::findings::{conclude, exit_code, timed, Findings};
 use crate::random::Random;
 use crate::{damage, verdict};
+use arguments::Options;
 use std::process::ExitCode;
 use tally::Tally;
 
@@ -22,19 +24,22 @@ pub fn run(options: &[Given], arguments: &Arguments) -> ExitCode {
     };
     match &options.tried {
         Some(words) => exit_code(single::try_one(words, &options, arguments.seed)),
-        None => conclude(run_all(options.lists, arguments)),
+        None => conclude(run_all(&options, arguments)),
     }
 }
 
-/// The paper's table first, then the random lists, then the random texts.
-fn run_all(lists: u64, arguments: &Arguments) -> bool {
+/// The paper's table first, then the random lists, texts and logs.
+fn run_all(options: &Options, arguments: &Arguments) -> bool {
     let mut agreed = hold_table(arguments.seed);
     // What is not asked for can't be missing.
-    if lists > 0 {
-        agreed &= timed(|| run_lists(lists, arguments));
+    if options.lists > 0 {
+        agreed &= timed(|| run_lists(options.lists, arguments));
     }
     if arguments.texts > 0 {
         agreed &= timed(|| texts::run(arguments));
+    }
+    if options.logs > 0 {
+        agreed &= timed(|| logs::run(options.logs, arguments));
     }
     agreed
 }
