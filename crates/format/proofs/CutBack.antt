@@ -9,7 +9,7 @@ use lib.Dec.{eqb}
 use lib.ListN.{length, take, getD, length-append, length-take, List·getD-append}
 use lib.Seq.{length-take-le, take-take, take-all, take-at, getD-take, getD-append-add}
 use borrow.Author.Tests.{eq-eqb, ne-eqb}
-use Rattle.format.specs.Newest.{blocksKept, kept}
+use Rattle.format.specs.Newest.{blocksKept, wholeBlocks, kept}
 
 pub kept-le : (log : List ℕ) (n : ℕ) → blocksKept log n ≤ n
 kept-le log zero = omega arith
@@ -55,11 +55,11 @@ kept-other log (suc n) h e =
     rw (q, t)
 
 module _ (log : List ℕ) where
-  kept-fits : 64 * blocksKept log (length log / 64) ≤ length log
-  kept-fits = omega (arith, kept-le log (length log / 64))
+  kept-fits : 64 * blocksKept log (wholeBlocks log) ≤ length log
+  kept-fits = omega (arith, kept-le log (wholeBlocks log))
 
-  pub kept-length : length (kept log) ≡ 64 * blocksKept log (length log / 64)
-  kept-length = length-take-le (64 * blocksKept log (length log / 64)) log kept-fits
+  pub kept-length : length (kept log) ≡ 64 * blocksKept log (wholeBlocks log)
+  kept-length = length-take-le (64 * blocksKept log (wholeBlocks log)) log kept-fits
 
 -- what is kept of the first n bytes is no more than there is
 pub start-fits : (log : List ℕ) (n : ℕ) → length (kept (take n log)) ≤ length log
@@ -72,7 +72,7 @@ kept-is-front log = ap (λ (k : ℕ). take k log) (kept-length log)
 pub kept-front : (log : List ℕ) (n : ℕ) → take (length (kept (take n log))) log ≡ kept (take n log)
 kept-front log n =
     ap (λ (k : ℕ). take k log) (kept-length (take n log))
-    ∙ sym (take-take (64 * blocksKept (take n log) (length (take n log) / 64)) n log (omega (arith, kept-fits (take n log), length-take n log)))
+    ∙ sym (take-take (64 * blocksKept (take n log) (wholeBlocks (take n log))) n log (omega (arith, kept-fits (take n log), length-take n log)))
 
 module _ (log more : List ℕ) where
   -- the log that has been cut back, and what comes after it
@@ -80,7 +80,7 @@ module _ (log more : List ℕ) where
   long = kept log ++ more
 
   abbrev m : ℕ
-  m = blocksKept log (length log / 64)
+  m = blocksKept log (wholeBlocks log)
 
   long-length : length long ≡ 64 * m + length more
   long-length = length-append (kept log) more ∙ ap (λ (k : ℕ). k + length more) (kept-length log)
@@ -95,20 +95,20 @@ module _ (log more : List ℕ) where
       ap (λ (k : ℕ). getD long k 0) e ∙ getD-append-add (kept log) more (64 * i) 0
 
   kept-start : blocksKept long m ≡ m
-  kept-start = kept-alike long log m kind-before ∙ kept-again log (length log / 64)
+  kept-start = kept-alike long log m kind-before ∙ kept-again log (wholeBlocks log)
 
   -- no whole block of what comes after is a trailer
-  pub kept-torn : ((i : ℕ) → i < length more / 64 → eqb (getD more (64 * i) 0) 2 ≡ false) → kept long ≡ kept log
+  pub kept-torn : ((i : ℕ) → i < wholeBlocks more → eqb (getD more (64 * i) 0) 2 ≡ false) → kept long ≡ kept log
   kept-torn h =
-      let e : length long / 64 ≡ m + length more / 64 = omega (arith, long-length) in
-      let k : blocksKept long (length long / 64) ≡ m =
-      ap (blocksKept long) e ∙ kept-over long m (length more / 64) (λ i q. rw (kind-after i) (h i q)) ∙ kept-start in
+      let e : wholeBlocks long ≡ m + wholeBlocks more = omega (arith, long-length) in
+      let k : blocksKept long (wholeBlocks long) ≡ m =
+      ap (blocksKept long) e ∙ kept-over long m (wholeBlocks more) (λ i q. rw (kind-after i) (h i q)) ∙ kept-start in
       rw k (take-at (kept log) more (64 * m) (kept-length log))
 
   -- the last block of what comes after is one
   pub kept-whole : (n : ℕ) → length more ≡ 64 * suc n → getD more (64 * n) 0 ≡ 2 → kept long ≡ long
   kept-whole n e h =
-      let q : length long / 64 ≡ suc (m + n) = omega (arith, long-length) in
+      let q : wholeBlocks long ≡ suc (m + n) = omega (arith, long-length) in
       let t : eqb (getD long (64 * (m + n)) 0) 2 ≡ true = eq-eqb (getD long (64 * (m + n)) 0) 2 (kind-after n ∙ h) in
-      let k : blocksKept long (length long / 64) ≡ suc (m + n) = ap (blocksKept long) q ∙ rw t in
+      let k : blocksKept long (wholeBlocks long) ≡ suc (m + n) = ap (blocksKept long) q ∙ rw t in
       rw k (take-all (64 * suc (m + n)) long (omega (arith, long-length)))

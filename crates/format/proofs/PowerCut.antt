@@ -9,7 +9,7 @@ use lib.ListN.{length, take, drop, getD, replicate, length-append}
 use lib.Seq.{take-all, length-take-le, take-at, drop-at, getD-take, getD-append-add}
 use borrow.Author.Tests.{eq-eqb, le-ltb}
 use Rattle.format.specs.Blocks.{planBlocks, blocksFor, trailer, planBytes}
-use Rattle.format.specs.Newest.{plan, blockCount, startupLength, cycleLength, entriesLength, wrongCount, beforeStart, covered, entries, otherKind, nonzeroPad, isDamaged, planBefore, newestOf, newest, kept, allPlan, allZero, carried}
+use Rattle.format.specs.Newest.{plan, blockCount, startupLength, cycleLength, entriesLength, wrongCount, beforeStart, covered, entries, otherKind, nonzeroPad, isDamaged, planBefore, newestOf, newest, wholeBlocks, kept, allPlan, allZero, carried}
 use Rattle.format.proofs.Lists.{zeros-zero}
 use Rattle.format.proofs.CutBack.{kept-torn, kept-whole}
 use Rattle.format.proofs.Carried.{blocks-length, blocks-kind, blocks-plan, blocks-carried}
@@ -50,7 +50,7 @@ module _ (startup cycle : List ℕ) where
       ap (λ (k : ℕ). getD (blocks ++ last) k 0) e ∙ getD-append-add blocks last 0 0
 
   -- a front of a plan that is not the whole has no whole trailer
-  torn-kinds : (j i : ℕ) → j < length (planBytes startup cycle) → i < length (take j (planBytes startup cycle)) / 64
+  torn-kinds : (j i : ℕ) → j < length (planBytes startup cycle) → i < wholeBlocks (take j (planBytes startup cycle))
       → eqb (getD (take j (planBytes startup cycle)) (64 * i) 0) 2 ≡ false
   torn-kinds j i h q =
       let short : length (take j (planBytes startup cycle)) ≡ j = length-take-le j (planBytes startup cycle) (omega arith) in

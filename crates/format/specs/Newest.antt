@@ -11,9 +11,13 @@ abbrev pub blocksKept : List ℕ → ℕ → ℕ
 blocksKept log zero = 0
 blocksKept log (suc n) = cond (eqb (getD log (blockLength * n) 0) trailerKind) (suc n) (blocksKept log n)
 
--- a log cut back to just after its last trailer, or to nothing: a part block is dropped
+-- a part block is dropped
+abbrev pub wholeBlocks : List ℕ → ℕ
+wholeBlocks log = length log / blockLength
+
+-- a log cut back to just after its last trailer, or to nothing
 abbrev pub kept : List ℕ → List ℕ
-kept log = take (blockLength * blocksKept log (length log / blockLength)) log
+kept log = take (blockLength * blocksKept log (wholeBlocks log)) log
 
 -- a 16-bit number from place i on, low byte first
 abbrev pub numberAt : List ℕ → ℕ → ℕ

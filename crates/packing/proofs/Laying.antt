@@ -4,7 +4,7 @@ use mathlib.Core.List.{List, [], _∷_, _++_, append-assoc, append-nil}
 use Prim.Native.Nat.{ℕ, zero, suc, _+_, _-_, _*_, _/_, _%_, _≤_, _<_, min}
 use native.Mathlib.Omega.{arith}
 use lib.ListN.{length, take, drop, set, replicate, length-append, length-take, length-drop, length-set, drop-of-length-le}
-use lib.Seq.{length-take-le, take-at, take-suc-set, drop-length, drop-at, drop-drop, sets, sets-eq}
+use lib.Seq.{length-take-le, take-at, take-suc-set, drop-length, drop-at, drop-drop, sets, length-sets, sets-eq}
 use Rattle.format.specs.Blocks.{padded, planBlocks, trailer}
 use Rattle.format.proofs.Lists.{take-append, drop-append}
 use Rattle.format.proofs.Carried.{blocks-length}
@@ -116,12 +116,18 @@ module _ (entries out : List ℕ) where
   laid-all n e = rw (drop-of-length-le out {i = 64 * n} (omega arith)) (append-nil (planBlocks n entries))
 
 -- the trailer's seven bytes, and zeros after them
-pub trailer-laid : (out : List ℕ) (blocks startup cycle : ℕ) → length out ≡ 64
-    → take 7 (sets out 0 (2 ∷ blocks % 256 ∷ blocks / 256 ∷ startup % 256 ∷ startup / 256 ∷ cycle % 256 ∷ cycle / 256 ∷ [])) ++ replicate 57 0
-    ≡ trailer blocks startup cycle
-trailer-laid out blocks startup cycle e =
-    let seven : List ℕ = 2 ∷ blocks % 256 ∷ blocks / 256 ∷ startup % 256 ∷ startup / 256 ∷ cycle % 256 ∷ cycle / 256 ∷ [] in
-    ap (λ (l : List ℕ). take 7 l ++ replicate 57 0) (sets-eq seven out 0 (omega arith))
+module _ (out : List ℕ) (blocks startup cycle a b d e f g : ℕ) (whole : length out ≡ 64) where
+  abbrev seven : List ℕ
+  seven = 2 ∷ a ∷ b ∷ d ∷ e ∷ f ∷ g ∷ []
+
+  pub trailer-laid : a ≡ blocks % 256 → b ≡ blocks / 256 → d ≡ startup % 256 → e ≡ startup / 256 → f ≡ cycle % 256 → g ≡ cycle / 256
+      → (q : List ℕ) → q ≡ take 7 (sets out 0 seven) ++ replicate (length (sets out 0 seven) - 7) 0 → q ≡ trailer blocks startup cycle
+  trailer-laid ea eb ed ee ef eg q laid =
+      let n : length (sets out 0 seven) - 7 ≡ 57 = omega (arith, length-sets out 0 seven) in
+      laid
+      ∙ ap (λ (k : ℕ). take 7 (sets out 0 seven) ++ replicate k 0) n
+      ∙ ap (λ (l : List ℕ). take 7 l ++ replicate 57 0) (sets-eq seven out 0 (omega arith))
+      ∙ rw (ea, eb, ed, ee, ef, eg)
 
 -- a front, and what is laid after it up to the end
 pub laid-both : (out front last : List ℕ) (n : ℕ) → length front ≡ n

@@ -35,7 +35,9 @@ pub(crate) fn damaged(before: &[u8], trailer: &[u8]) -> bool
     if !all_plan(covered, count) {
         return true;
     }
-    if !all_zero(&covered[count + entries..]) {
+    // First bytes and entries come before the pad.
+    let pad = count + entries;
+    if !all_zero(&covered[pad..]) {
         return true;
     }
     !all_zero(&trailer[7..])

@@ -1,22 +1,22 @@
 -- `kept` meets its contract: back from the last whole block, a block at a time.
-use mathlib.Core.Path.{_≡_, sym, _∙_, ap}
+use mathlib.Core.Path.{_≡_, refl, sym, _∙_, ap}
 use Prim.Native.Nat.{ℕ, _*_, _/_, _≤_}
 use native.Mathlib.Omega.{arith}
 use lib.ListN.{length}
 use borrow.Author.Needs.{needs}
-use Rattle.format.specs.Newest.{blocksKept}
+use Rattle.format.specs.Newest.{blocksKept, wholeBlocks}
 use Rattle.format.proofs.CutBack.{kept-trailer, kept-other, kept-length}
 use Rattle.format.proofs.kept.Statement.{statement}
 use Rattle.format.proofs.kept.Tie as tie
 
 abbrev Inv-loop : tie.InvT-loop
-Inv-loop log n₀ n = (n ≤ length log / 64) × (blocksKept log n ≡ blocksKept log (length log / 64))
+Inv-loop log n₀ n = (n ≤ wholeBlocks log) × (blocksKept log n ≡ blocksKept log (wholeBlocks log))
 
 abbrev μ-loop : tie.MeasureT-loop
 μ-loop log n₀ n = n
 
 loop-holds : tie.Need-loop-holds Inv-loop μ-loop
-loop-holds c = search needs
+loop-holds c = (omega arith, refl)
 
 sub-if1 : tie.Need-sub-if1 Inv-loop μ-loop
 sub-if1 c = search needs

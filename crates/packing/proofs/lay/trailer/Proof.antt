@@ -1,10 +1,7 @@
 -- `trailer` meets its contract: seven bytes, and zeros.
-use mathlib.Core.Path.{_≡_, sym, _∙_, ap}
-use mathlib.Core.List.{[], _∷_}
-use Prim.Native.Nat.{_-_}
+use mathlib.Core.Path.{sym, _∙_, ap}
 use native.Mathlib.Omega.{arith}
-use lib.ListN.{length}
-use lib.Seq.{sets, length-sets, lt-length-sets}
+use lib.ListN.{length, length-set}
 use borrow.Author.Needs.{needs}
 use Rattle.packing.proofs.Laying.{trailer-laid}
 use Rattle.packing.proofs.lay.trailer.Statement.{statement}
@@ -35,47 +32,27 @@ high-requires-2 : tie.Need-high-requires-2
 high-requires-2 c κs = search needs
 
 slice-write-out-5 : tie.Need-slice-write-out-5
-slice-write-out-5 c =
-    let e = c in
-    let d = e .before in
-    let b = d .before in
-    let a = b .before in
-    let s = a .before .before in
-    lt-length-sets (s .args .out .now) 0 (2 ∷ a .low .result ∷ b .high .result ∷ d .low2 .result ∷ []) (omega arith)
+slice-write-out-5 c = simp length-set (omega arith)
 
 low-requires-3 : tie.Need-low-requires-3
 low-requires-3 c κs = search needs
 
 slice-write-out-6 : tie.Need-slice-write-out-6
-slice-write-out-6 c =
-    let f = c in
-    let e = f .before in
-    let d = e .before in
-    let b = d .before in
-    let a = b .before in
-    let s = a .before .before in
-    lt-length-sets (s .args .out .now) 0 (2 ∷ a .low .result ∷ b .high .result ∷ d .low2 .result ∷ e .high2 .result ∷ []) (omega arith)
+slice-write-out-6 c = simp length-set (omega arith)
 
 high-requires-3 : tie.Need-high-requires-3
 high-requires-3 c κs = search needs
 
 slice-write-out-7 : tie.Need-slice-write-out-7
-slice-write-out-7 c =
-    let g = c in
-    let f = g .before in
-    let e = f .before in
-    let d = e .before in
-    let b = d .before in
-    let a = b .before in
-    let s = a .before .before in
-    lt-length-sets (s .args .out .now) 0 (2 ∷ a .low .result ∷ b .high .result ∷ d .low2 .result ∷ e .high2 .result ∷ f .low3 .result ∷ []) (omega arith)
+slice-write-out-7 c = simp length-set (omega arith)
 
 zeros-requires : tie.Need-zeros-requires
 zeros-requires c κs = tt
 
 returns : tie.Need-returns
 returns c =
-    let g = c .before .before .before .before in
+    let z = c .before .before in
+    let g = z .before .before in
     let f = g .before in
     let e = f .before in
     let d = e .before in
@@ -83,10 +60,9 @@ returns c =
     let a = b .before in
     let s = a .before .before in
     let x = s .args in
-    let n : length (sets (x .out .now) 0 (2 ∷ a .low .result ∷ b .high .result ∷ d .low2 .result ∷ e .high2 .result ∷ f .low3 .result ∷ g .high3 .result ∷ [])) - 7 ≡ 57 = omega (arith, length-sets (x .out .now) 0 (2 ∷ a .low .result ∷ b .high .result ∷ d .low2 .result ∷ e .high2 .result ∷ f .low3 .result ∷ g .high3 .result ∷ [])) in
-    c .before .before .zeros .ensures
-    ∙ rw (n, a .low .ensures, b .high .ensures, d .low2 .ensures, e .high2 .ensures, f .low3 .ensures, g .high3 .ensures)
-    (trailer-laid (x .out .now) (x .count) (x .startup) (x .cycle) (s .pre .0))
+    trailer-laid (x .out .now) (x .count) (x .startup) (x .cycle) (a .low .result) (b .high .result) (d .low2 .result) (e .high2 .result) (f .low3 .result)
+    (g .high3 .result) (s .pre .0) (a .low .ensures) (b .high .ensures) (d .low2 .ensures) (e .high2 .ensures) (f .low3 .ensures) (g .high3 .ensures)
+    (z .zeros .last .0) (z .zeros .ensures)
 
 same-length : tie.Need-same-length
 same-length c =

@@ -71,8 +71,8 @@ returns-3 c =
     let x = n .before .before .before .args in
     by-kind (x .before .now) (x .trailer .now) (n .number .result) (a .number2 .result) (b .number3 .result) (n .number .ensures .0) (a .number2 .ensures .0) (b .number3 .ensures .0) (sym (p .all-plan .ensures) ∙ not-true (p .all-plan .result) (c .if3 .taken))
 
-add-all-zero : tie.Need-add-all-zero
-add-all-zero c = search needs
+add-pad : tie.Need-add-pad
+add-pad c = search needs
 
 sub-all-zero : tie.Need-sub-all-zero
 sub-all-zero c = search needs
@@ -143,7 +143,7 @@ damaged-spec =
     part-covered-end
     all-plan-requires
     returns-3
-    add-all-zero
+    add-pad
     sub-all-zero
     part-all-zero-start
     part-all-zero-end

@@ -1,7 +1,9 @@
 -- `number` meets its contract: each byte is below 256.
-use Prim.Native.Nat.{_+_}
+use mathlib.Core.Path.{ap}
+use Prim.Native.Nat.{ℕ, _+_, _*_}
 use native.Mathlib.Omega.{arith}
 use native.Mathlib.Numerals.{add-one}
+use lib.ListN.{getD}
 use borrow.Author.Needs.{needs}
 use Rattle.unpacking.proofs.check.number.Statement.{statement}
 use Rattle.unpacking.proofs.check.number.Tie as tie
@@ -22,7 +24,9 @@ cast-high : tie.Need-cast-high
 cast-high c = omega (arith, c .shared-slice-known2 .given (c .before .before .args .i + 1))
 
 mul-result : tie.Need-mul-result
-mul-result c = omega (arith, c .shared-slice-known2 .given (c .before .before .args .i + 1))
+mul-result c =
+    let x = c .before .before .args in
+    omega (arith, c .before .shared-slice-known .given (x .i), c .shared-slice-known2 .given (x .i + 1))
 
 add-result : tie.Need-add-result
 add-result c =
@@ -31,7 +35,10 @@ add-result c =
 returns : tie.Need-returns
 returns c =
     let x = c .before .before .args in
-    (rw add-one, omega (arith, c .before .shared-slice-known .given (x .i), c .shared-slice-known2 .given (x .i + 1)))
+    let l = x .bytes .now in (
+      ap (λ (k : ℕ). getD l (x .i) 0 + 256 * getD l k 0) (add-one (x .i)),
+      omega (arith, c .before .shared-slice-known .given (x .i), c .shared-slice-known2 .given (x .i + 1)),
+    )
 
 pub number-spec : {M : Type 1} → statement M
 number-spec =
