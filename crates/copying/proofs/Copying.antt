@@ -1,11 +1,11 @@
 -- Bytes copied into a part of a lent slice, said of the whole.
-use mathlib.Core.Path.{_≡_, refl, sym, _∙_, ap}
+use mathlib.Core.Path.{_≡_, sym, _∙_, ap}
 use mathlib.Core.List.{List, [], _++_, append-assoc, append-nil}
 use Prim.Native.Nat.{ℕ, suc, _+_, _-_, _≤_, _<_, min}
 use native.Mathlib.Nat.{add-zero, add-sub-cancel-left, add-sub-of-le, sub-self, sub-eq-zero-of-le, min-comm}
 use native.Mathlib.Omega.{arith}
 use native.Mathlib.Decide.{decLe}
-use lib.ListN.{length, take, drop, set, getD, replicate, length-take, length-drop, length-replicate, getD-replicate, take-append-drop, drop-of-length-le}
+use lib.ListN.{length, take, drop, set, replicate, length-take, length-drop, length-replicate, getD-replicate, take-append-drop, drop-of-length-le}
 use lib.Seq.{take-nil, take-all, take-length, drop-drop, slice-empty, paste, paste-zero, paste-suc, length-paste}
 
 pub take-least : (l : List ℕ) (m : ℕ) → take (min (length l) m) l ≡ take m l

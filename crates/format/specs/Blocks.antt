@@ -27,7 +27,7 @@ planBlocks (suc n) entries = planKind ∷ padded carriedLength entries ++ planBl
 
 -- how many blocks so many entries take: their number divided by 63, rounded up
 abbrev pub blocksFor : ℕ → ℕ
-blocksFor n = (n + 62) / carriedLength
+blocksFor n = (n + (carriedLength - 1)) / carriedLength
 
 -- a 16-bit number, low byte first
 abbrev pub twoBytes : ℕ → List ℕ
@@ -38,7 +38,7 @@ largestLength = 65535
 
 -- first byte 2, then how many plan blocks to go back, startup length and cycle length, the rest 0
 abbrev pub trailer : ℕ → ℕ → ℕ → List ℕ
-trailer blocks startup cycle = trailerKind ∷ (twoBytes blocks ++ twoBytes startup ++ twoBytes cycle ++ replicate 57 0)
+trailer blocks startup cycle = padded blockLength (trailerKind ∷ (twoBytes blocks ++ twoBytes startup ++ twoBytes cycle))
 
 -- a plan: the blocks that carry the startup entries, then the cycle entries, and after them the trailer
 abbrev pub planBytes : List ℕ → List ℕ → List ℕ

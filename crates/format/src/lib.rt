@@ -14,11 +14,16 @@ pub const PLAN: u8 = 1;
 
 pub const TRAILER: u8 = 2;
 
-// How many blocks so many entries take: no sum on the way may wrap.
+// How many blocks so many entries take: their number divided by 63, rounded up.
 pub fn blocks_for(entries: usize) -> usize
     ensures { λ r. ⌜ r ≡ blocksFor entries ⌝ }
 {
-    entries / CARRIED + (entries % CARRIED + 62) / CARRIED
+    let full = entries / CARRIED;
+    if entries % CARRIED == 0 {
+        full
+    } else {
+        full + 1
+    }
 }
 
 // How many bytes of a log are kept when it is cut back to just after its last trailer, or to nothing.

@@ -8,7 +8,7 @@ use lib.Dec.{ltb}
 use lib.ListN.{length, take, drop, length-take, length-drop}
 use lib.Seq.{length-take-le}
 use borrow.Author.Tests.{lt-ltb, le-ltb}
-use Rattle.format.specs.Newest.{Newest, none, damaged, plan, blockCount, startupLength, cycleLength, entries, carried, isDamaged, planBefore}
+use Rattle.format.specs.Newest.{Newest, none, damaged, blockCount, startupLength, cycleLength, entries, carried, isDamaged, planBefore}
 use Rattle.format.proofs.Lists.{to-end}
 use Rattle.unpacking.proofs.Damaged.{right-count, inside}
 use Rattle.unpacking.proofs.Newest.{plan-found, startup-whole, cycle-whole}

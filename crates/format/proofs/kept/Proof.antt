@@ -1,8 +1,7 @@
 -- `kept` meets its contract: back from the last whole block, a block at a time.
 use mathlib.Core.Path.{_≡_, refl, sym, _∙_, ap}
-use Prim.Native.Nat.{ℕ, _*_, _/_, _≤_}
+use Prim.Native.Nat.{ℕ, _*_, _≤_}
 use native.Mathlib.Omega.{arith}
-use lib.ListN.{length}
 use borrow.Author.Needs.{needs}
 use Rattle.format.specs.Newest.{blocksKept, wholeBlocks}
 use Rattle.format.proofs.CutBack.{kept-trailer, kept-other, kept-length}

@@ -1,6 +1,6 @@
 -- `entries` meets its contract: as many entries at a time as one block has.
 use mathlib.Core.Path.{_≡_, _∙_, ap}
-use Prim.Native.Nat.{_+_, _-_, _*_, _/_, _%_, _≤_}
+use Prim.Native.Nat.{_-_, _≤_}
 use native.Mathlib.Omega.{arith}
 use lib.ListN.{length}
 use borrow.Author.Needs.{needs}

@@ -29,7 +29,9 @@ returns c =
     let a = b .before in
     let n = a .before in
     let x = n .before .before .before .args in
-    by-count (x .before .now) (x .trailer .now) (n .number .result) (a .number2 .result) (b .number3 .result) (n .number .ensures .0) (a .number2 .ensures .0) (b .number3 .ensures .0) (λ e. c .if1 .taken (e ∙ sym (k .blocks-for .ensures)))
+    by-count (x .before .now) (x .trailer .now) (n .number .result) (a .number2 .result) (b .number3 .result)
+    (n .number .ensures .0) (a .number2 .ensures .0) (b .number3 .ensures .0)
+    (λ e. c .if1 .taken (e ∙ sym (k .blocks-for .ensures)))
 
 mul-if2 : tie.Need-mul-if2
 mul-if2 c = search needs
@@ -41,7 +43,9 @@ returns-2 c =
     let a = b .before in
     let n = a .before in
     let x = n .before .before .before .args in
-    by-start (x .before .now) (x .trailer .now) (n .number .result) (a .number2 .result) (b .number3 .result) (n .number .ensures .0) (a .number2 .ensures .0) (b .number3 .ensures .0) (c .if2 .taken)
+    by-start (x .before .now) (x .trailer .now) (n .number .result) (a .number2 .result) (b .number3 .result)
+    (n .number .ensures .0) (a .number2 .ensures .0) (b .number3 .ensures .0)
+    (c .if2 .taken)
 
 mul-covered : tie.Need-mul-covered
 mul-covered c = search needs
@@ -69,7 +73,9 @@ returns-3 c =
     let a = b .before in
     let n = a .before in
     let x = n .before .before .before .args in
-    by-kind (x .before .now) (x .trailer .now) (n .number .result) (a .number2 .result) (b .number3 .result) (n .number .ensures .0) (a .number2 .ensures .0) (b .number3 .ensures .0) (sym (p .all-plan .ensures) ∙ not-true (p .all-plan .result) (c .if3 .taken))
+    by-kind (x .before .now) (x .trailer .now) (n .number .result) (a .number2 .result) (b .number3 .result)
+    (n .number .ensures .0) (a .number2 .ensures .0) (b .number3 .ensures .0)
+    (sym (p .all-plan .ensures) ∙ not-true (p .all-plan .result) (c .if3 .taken))
 
 add-pad : tie.Need-add-pad
 add-pad c = search needs
@@ -95,7 +101,10 @@ returns-4 c =
     let a = b .before in
     let n = a .before in
     let x = n .before .before .before .args in
-    by-pad (x .before .now) (x .trailer .now) (n .number .result) (a .number2 .result) (b .number3 .result) (n .number .ensures .0) (a .number2 .ensures .0) (b .number3 .ensures .0) (i .before .if1 .left ∙ k .blocks-for .ensures) (i .if2 .left) (sym (z .all-zero .ensures) ∙ not-true (z .all-zero .result) (c .if4 .taken))
+    by-pad (x .before .now) (x .trailer .now) (n .number .result) (a .number2 .result) (b .number3 .result)
+    (n .number .ensures .0) (a .number2 .ensures .0) (b .number3 .ensures .0)
+    (i .before .if1 .left ∙ k .blocks-for .ensures) (i .if2 .left)
+    (sym (z .all-zero .ensures) ∙ not-true (z .all-zero .result) (c .if4 .taken))
 
 sub-all-zero-2 : tie.Need-sub-all-zero-2
 sub-all-zero-2 c = search needs
@@ -122,7 +131,11 @@ returns-5 c =
     let n = a .before in
     let x = n .before .before .before .args in
     ap not (c .all-zero2 .ensures)
-    ∙ by-rest (x .before .now) (x .trailer .now) (n .number .result) (a .number2 .result) (b .number3 .result) (n .number .ensures .0) (a .number2 .ensures .0) (b .number3 .ensures .0) (i .before .if1 .left ∙ k .blocks-for .ensures) (i .if2 .left) (sym (p .all-plan .ensures) ∙ not-false (p .all-plan .result) (q .if3 .left)) (sym (z .all-zero .ensures) ∙ not-false (z .all-zero .result) (e .if4 .left))
+    ∙ by-rest (x .before .now) (x .trailer .now) (n .number .result) (a .number2 .result) (b .number3 .result)
+    (n .number .ensures .0) (a .number2 .ensures .0) (b .number3 .ensures .0)
+    (i .before .if1 .left ∙ k .blocks-for .ensures) (i .if2 .left)
+    (sym (p .all-plan .ensures) ∙ not-false (p .all-plan .result) (q .if3 .left))
+    (sym (z .all-zero .ensures) ∙ not-false (z .all-zero .result) (e .if4 .left))
 
 pub damaged-spec : {M : Type 1} → statement M
 damaged-spec =
