@@ -1,8 +1,10 @@
 /*
- * Sholakpite: whether a list of periodic tasks ever misses a deadline on one core, and its slot tables.
+ * Sholakpite: whether a list of periodic tasks ever misses a deadline on one core, its slot tables, and a log of plans
+ * that survives a power cut.
  *
  * The functions behind this header are written in Rattle and proved to meet their promises
- * (crates/words/specs/Words.antt, crates/sholakpite/specs/Texts.antt). This header is not: it is assumed to match.
+ * (crates/words/specs/Words.antt, crates/sholakpite/specs/Texts.antt and Logs.antt). This header is not: it is assumed to
+ * match.
  */
 #ifndef SHOLAKPITE_H
 #define SHOLAKPITE_H

@@ -42,7 +42,7 @@ const NOT_APPENDED: u64 = 23;
 /// What a log has to hand over.
 #[derive(Clone, Copy, Debug, PartialEq, Eq)]
 pub enum Read {
-    /// The newest plan that was fully written: how many entries each buffer has now.
+    /// The newest plan that was fully written: how many entries each part has.
     Plan { startup: usize, cycle: usize },
     /// 20: no plan was fully written.
     NoPlan,
@@ -98,7 +98,7 @@ pub fn read(log: &[u8], startup: &mut [u8], cycle: &mut [u8]) -> Read {
 /// As C calls it: 0, with both lengths in the front of `lengths`; or 20, 21 or 22; or 4, looked at first, where
 /// `lengths` has fewer than two words.
 pub fn read_words(log: &[u8], startup: &mut [u8], cycle: &mut [u8], lengths: &mut [u64]) -> u64 {
-    // As above.
+    // A slice is never null, its memory is initialised, and the three that are written are borrowed by nobody else.
     unsafe {
         sholakpite_read(
             log.as_ptr(),

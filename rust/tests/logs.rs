@@ -92,10 +92,10 @@ fn a_count_above_the_buffer_means_all_of_it() {
 
 #[test]
 fn what_does_not_fit_is_not_appended() {
-    for (room, used) in [(127, None), (128, Some(128))] {
-        let mut log = vec![77; room];
+    for (used, after) in [(None, vec![77; 127]), (Some(128), log_b())] {
+        let mut log = vec![77; after.len()];
         assert_eq!(append(&mut log, 0, &STARTUP, &CYCLE), used);
-        assert_eq!(log[0] == 77, used.is_none());
+        assert_eq!(log, after);
     }
     let mut log = vec![77; 200_000];
     let long = vec![0; LONGEST_PART + 1];

@@ -19,16 +19,14 @@ module _ (src dst : List ℕ) (from at : ℕ) where
   abbrev copied : List ℕ
   copied = take (length dst - at) (drop from src)
 
+  nothing : copied ≡ [] → (at ≡ at + length copied) × (dst ≡ take at dst ++ copied ++ drop at dst)
+  nothing e = (rw e (sym (add-zero at)), rw (e, append-nil (take at dst)) (sym (take-append-drop at dst)))
+
   pub fill-none : length src ≤ from → (at ≡ at + length copied) × (dst ≡ take at dst ++ copied ++ drop at dst)
-  fill-none h =
-      let e : copied ≡ [] = rw (drop-of-length-le src h) (take-nil (length dst - at)) in
-      (rw e (sym (add-zero at)), rw (e, append-nil (take at dst)) (sym (take-append-drop at dst)))
+  fill-none h = nothing (rw (drop-of-length-le src h) (take-nil (length dst - at)))
 
   pub fill-full : length dst ≤ at → (at ≡ at + length copied) × (dst ≡ take at dst ++ copied ++ drop at dst)
-  fill-full h =
-      let z : length dst - at ≡ 0 = sub-eq-zero-of-le h in
-      let e : copied ≡ [] = rw z in
-      (rw e (sym (add-zero at)), rw (e, append-nil (take at dst)) (sym (take-append-drop at dst)))
+  fill-full h = nothing (rw (sub-eq-zero-of-le h))
 
   -- n bytes go through a part of either, which ends up as `ys`
   module _ (n : ℕ) (ys : List ℕ) where

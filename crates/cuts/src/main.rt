@@ -5,24 +5,21 @@ mod tally;
 use libc::STDOUT_FILENO;
 use packing::Appended;
 use tally::Tally;
+use tally::named;
+use task::Task;
 
 // The longest tables that the checker writes.
-const STARTUP: usize = 32768;
+const STARTUP: usize = Task::LATEST_OFFSET + Task::LONGEST_HYPERPERIOD;
 
-const CYCLE: usize = 16384;
+const CYCLE: usize = Task::LONGEST_HYPERPERIOD;
 
 // Such a plan takes 782 blocks with its trailer, and the one before it two.
-const ROOM: usize = 50176;
-
-fn say(text: &[u8], n: usize) {
-    io::write_all(STDOUT_FILENO, text);
-    io::print_decimal(STDOUT_FILENO, n as u64);
-}
+const ROOM: usize = 784 * format::BLOCK;
 
 fn used(said: Appended) -> usize {
     match said {
         Appended::Used(n) => n,
-        Appended::Full => 0,
+        Appended::Refused => 0,
     }
 }
 
@@ -64,7 +61,7 @@ fn again(log: &mut [u8], begun: usize, startup: &[u8], cycle: &[u8]) {
             return;
         }
         tally = tally.with(tally::look(&log[..n], b"an", b"other", &mut s, &mut c));
-        log::append(log, j, startup, cycle);
+        log::append(log, begun, startup, cycle);
     }
     io::write_all(STDOUT_FILENO, b"  another appended after each");
     tally.print();
@@ -72,8 +69,8 @@ fn again(log: &mut [u8], begun: usize, startup: &[u8], cycle: &[u8]) {
 
 // A plan in an empty log, and after another plan.
 fn both(log: &mut [u8], startup: &[u8], cycle: &[u8]) {
-    say(b"startup ", startup.len());
-    say(b", cycle ", cycle.len());
+    named(b"startup ", startup.len());
+    named(b", cycle ", cycle.len());
     io::write_all(STDOUT_FILENO, b"\n  cut in an empty log");
     in_log(log, 0, startup, cycle);
     let begun = used(log::append(log, 0, b"be", b"fore"));

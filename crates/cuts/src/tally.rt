@@ -23,7 +23,7 @@ fn more(n: usize) -> usize {
     if n < usize::MAX { n + 1 } else { n }
 }
 
-fn named(name: &[u8], n: usize) {
+pub(crate) fn named(name: &[u8], n: usize) {
     io::write_all(STDOUT_FILENO, name);
     io::print_decimal(STDOUT_FILENO, n as u64);
 }
@@ -87,8 +87,17 @@ fn which(s: &[u8], c: &[u8], startup: &[u8], cycle: &[u8]) -> Seen {
     Seen::Other
 }
 
-// Reads a log by way of two buffers, and tells which plan that is.
+// No plan here begins with this entry.
+fn spoil(buffer: &mut [u8]) {
+    if 0 < buffer.len() {
+        buffer[0] = 254;
+    }
+}
+
+// Reads a log by way of two buffers, in which nothing is left of an earlier plan, and tells which plan that is.
 pub(crate) fn look(log: &[u8], startup: &[u8], cycle: &[u8], s: &mut [u8], c: &mut [u8]) -> Seen {
+    spoil(s);
+    spoil(c);
     match log::read(log, s, c) {
         Found::Nothing => Seen::Nothing,
         Found::Damaged => Seen::Refused,

@@ -11,7 +11,7 @@ use lib.Seq.{length-take-le, take-take, take-all, take-at, getD-take, getD-appen
 use borrow.Author.Tests.{eq-eqb, ne-eqb}
 use Rattle.format.specs.Newest.{blocksKept, wholeBlocks, kept}
 
-pub kept-le : (log : List ℕ) (n : ℕ) → blocksKept log n ≤ n
+kept-le : (log : List ℕ) (n : ℕ) → blocksKept log n ≤ n
 kept-le log zero = omega arith
 kept-le log (suc n) = go (eqb (getD log (64 * n) 0) 2) (kept-le log n)
   where
@@ -66,8 +66,8 @@ pub start-fits : (log : List ℕ) (n : ℕ) → length (kept (take n log)) ≤ l
 start-fits log n = omega (arith, kept-length (take n log), kept-fits (take n log), length-take n log)
 
 -- it is a front of the log
-pub kept-is-front : (log : List ℕ) → take (length (kept log)) log ≡ kept log
-kept-is-front log = ap (λ (k : ℕ). take k log) (kept-length log)
+pub kept-is-front : (log : List ℕ) (n : ℕ) → n ≡ length (kept log) → take n log ≡ kept log
+kept-is-front log n e = ap (λ (k : ℕ). take k log) (e ∙ kept-length log)
 
 pub kept-front : (log : List ℕ) (n : ℕ) → take (length (kept (take n log))) log ≡ kept (take n log)
 kept-front log n =

@@ -29,7 +29,7 @@ to-end l i = take-all (length l - i) (drop i l) (omega (arith, length-drop i l))
 pub part-length : (l : List ℕ) (a k : ℕ) → a + k ≤ length l → length (take (a + k - a) (drop a l)) ≡ k
 part-length l a k h = rw (add-sub-cancel-left a k) (length-take-le k (drop a l) (omega (arith, length-drop a l)))
 
-pub padded-none : (n : ℕ) → padded n [] ≡ replicate n 0
+padded-none : (n : ℕ) → padded n [] ≡ replicate n 0
 padded-none n = rw (take-nil, sub-zero)
 
 pub padded-add : (a b : ℕ) (l : List ℕ) → padded (a + b) l ≡ padded a l ++ padded b (drop a l)

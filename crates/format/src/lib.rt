@@ -14,6 +14,15 @@ pub const PLAN: u8 = 1;
 
 pub const TRAILER: u8 = 2;
 
+// Where a trailer's three numbers and its rest begin.
+pub const COUNT_AT: usize = 1;
+
+pub const STARTUP_AT: usize = 3;
+
+pub const CYCLE_AT: usize = 5;
+
+pub const REST_AT: usize = 7;
+
 // How many blocks so many entries take: their number divided by 63, rounded up.
 pub fn blocks_for(entries: usize) -> usize
     ensures { λ r. ⌜ r ≡ blocksFor entries ⌝ }

@@ -9,9 +9,9 @@ use Rattle.unpacking.specs.declared.Found.{Found}
 use Rattle.unpacking.proofs.Pinned.{read-off-pinned}
 use Rattle.log.specs.Log.{start, AppendedAs, ReadAs}
 
-pub append-pinned : (log : List ℕ) (count : ℕ) (startup cycle : List ℕ) (r r′ : Appended) (left left′ : List ℕ)
-    → AppendedAs log count startup cycle r left → AppendedAs log count startup cycle r′ left′ → (r ≡ r′) × (left ≡ left′)
-append-pinned log count = packed-pinned log (start log count)
+pub append-pinned : (log : List ℕ) (used : ℕ) (startup cycle : List ℕ) (r r′ : Appended) (left left′ : List ℕ)
+    → AppendedAs log used startup cycle r left → AppendedAs log used startup cycle r′ left′ → (r ≡ r′) × (left ≡ left′)
+append-pinned log used = packed-pinned log (start log used)
 
 pub read-pinned : (log startup cycle : List ℕ) (r r′ : Found) (s s′ c c′ : List ℕ)
     → ReadAs log startup cycle r s c → ReadAs log startup cycle r′ s′ c′ → (r ≡ r′) × (s ≡ s′) × (c ≡ c′)

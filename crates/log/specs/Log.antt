@@ -8,13 +8,13 @@ use Rattle.packing.specs.Packing.{PackedAt}
 use Rattle.unpacking.specs.declared.Found.{Found}
 use Rattle.unpacking.specs.Unpacking.{ReadOff}
 
--- `count` bytes of the buffer are used, all of them where the count is above its length: where the log is cut back to
+-- where a log is cut back to; its bytes are the first `used` of the buffer, or all where `used` is above the buffer's length
 abbrev pub start : List ℕ → ℕ → ℕ
-start log count = length (kept (take count log))
+start log used = length (kept (take used log))
 
 -- `log` is the buffer as it was lent, `left` as it is left
 abbrev pub AppendedAs : List ℕ → ℕ → List ℕ → List ℕ → Appended → List ℕ → Type 0
-AppendedAs log count startup cycle r left = PackedAt log (start log count) startup cycle r left
+AppendedAs log used startup cycle r left = PackedAt log (start log used) startup cycle r left
 
 -- `startup` and `cycle` are the buffers as they were lent, s and c as they are left
 abbrev pub ReadAs : List ℕ → List ℕ → List ℕ → Found → List ℕ → List ℕ → Type 0

@@ -5,22 +5,27 @@ use Prim.Native.Nat.{ℕ, _≤_, _<_}
 use lib.ListN.{take}
 use Rattle.format.specs.Newest.{plan, newest}
 use Rattle.packing.specs.declared.Appended.the-variants.{Used}
-use Rattle.packing.specs.Packing.{isFull}
+use Rattle.packing.specs.Packing.{unfit}
 use Rattle.log.specs.Log.{start, AppendedAs}
 
--- a log of which `count` bytes were used, and a plan that was appended: the buffer is `after` then, with n bytes used
-module _ (log : List ℕ) (count : ℕ) (startup cycle : List ℕ) (n : ℕ) (after : List ℕ) where
-  -- the power failed when the log had j bytes: the new ones began where it was cut back to, and the last is missing
-  pub record IsTorn (j : ℕ) : Type 0 where
-    pub begun : start log count ≤ j
-    pub not-whole : j < n
+-- of n bytes that the log has once a plan is appended the first j are there: the new ones are written in order, from where the log
+-- was cut back to, and the last is missing
+pub record IsTorn (log : List ℕ) (used n j : ℕ) : Type 0 where
+  pub begun : start log used ≤ j
+  pub not-whole : j < n
 
-  pub record NothingLost : Type 0 where
-    -- reading what is left gives what it gave before
-    pub torn : (j : ℕ) → IsTorn j → newest (take j after) ≡ newest (take count log)
-    -- all were written: reading gives the new plan
-    pub whole : newest (take n after) ≡ plan startup cycle
-    -- what is left takes the plans that it took before
-    pub room : (j : ℕ) → IsTorn j → (s c : List ℕ) → isFull after (start after j) s c ≡ isFull log (start log count) s c
-    -- and one that is appended to it is the newest then
-    pub again : (j : ℕ) → IsTorn j → (s c : List ℕ) (m : ℕ) (left : List ℕ) → AppendedAs after j s c (Used m) left → newest (take m left) ≡ plan s c
+-- a log of which so many bytes were used, a plan that was appended, and the buffer after it, with n bytes used
+pub record NothingLost (log : List ℕ) (used : ℕ) (startup cycle : List ℕ) (n : ℕ) (after : List ℕ) : Type 0 where
+  -- reading what is left gives what it gave before
+  pub torn : (j : ℕ) → IsTorn log used n j → newest (take j after) ≡ newest (take used log)
+  -- all were written: reading gives the new plan
+  pub whole : newest (take n after) ≡ plan startup cycle
+  -- what is left takes the plans that the log took before
+  pub room : (j : ℕ) → IsTorn log used n j → (s c : List ℕ) → unfit after (start after j) s c ≡ unfit log (start log used) s c
+  -- and one that is appended to it is the newest then
+  pub again : (j : ℕ) → IsTorn log used n j → (s c : List ℕ) (m : ℕ) (left : List ℕ) → AppendedAs after j s c (Used m) left → newest (take m left) ≡ plan s c
+
+-- whatever was in the log, whatever plan was appended and whatever byte the power failed after
+abbrev pub Survives : Type 0
+Survives = (log : List ℕ) (used : ℕ) (startup cycle : List ℕ) (n : ℕ) (after : List ℕ)
+    → AppendedAs log used startup cycle (Used n) after → NothingLost log used startup cycle n after

@@ -5,32 +5,32 @@ use Prim.Native.Nat.{ℕ, zero, suc, _+_, _-_, _*_, _/_, _%_, _≤_, min}
 use native.Mathlib.Omega.{arith}
 use lib.ListN.{length, take, drop, set, replicate, length-append, length-take, length-drop, length-set, drop-of-length-le}
 use lib.Seq.{length-take-le, take-at, take-suc-set, drop-length, drop-at, drop-drop, sets, length-sets, sets-eq}
-use Rattle.format.specs.Blocks.{padded, planBlocks, trailer}
+use Rattle.format.specs.Blocks.{padded, planBlocks, twoBytes, trailer}
 use Rattle.format.proofs.Lists.{take-append, drop-append}
 use Rattle.format.proofs.Carried.{blocks-length}
 
 -- bytes that are copied into a slice after its first n, up to place r
 module _ (dst src : List ℕ) (n r : ℕ) (h : n ≤ length dst) (place : r ≡ n + length (take (length dst - n) src)) where
-  pub filled-place : r ≡ n + min (length dst - n) (length src)
+  filled-place : r ≡ n + min (length dst - n) (length src)
   filled-place = place ∙ ap (λ (k : ℕ). n + k) (length-take (length dst - n) src)
 
-  pub filled-fits : r ≤ length dst
+  filled-fits : r ≤ length dst
   filled-fits = omega (arith, filled-place)
 
   module _ (next : List ℕ) (filled : next ≡ take n dst ++ take (length dst - n) src ++ drop r dst) where
     front-length : length (take n dst ++ take (length dst - n) src) ≡ r
     front-length = length-append (take n dst) (take (length dst - n) src) ∙ omega (arith, place, length-take-le n dst h)
 
-    pub filled-length : length next ≡ length dst
+    filled-length : length next ≡ length dst
     filled-length =
         ap length filled ∙ length-append (take n dst ++ take (length dst - n) src) (drop r dst)
         ∙ omega (arith, front-length, filled-fits, length-drop r dst)
 
-    pub filled-front : take r next ≡ take n dst ++ take (length dst - n) src
+    filled-front : take r next ≡ take n dst ++ take (length dst - n) src
     filled-front = ap (take r) filled ∙ take-at (take n dst ++ take (length dst - n) src) (drop r dst) r front-length
 
 -- the entries that a block carries, where they come from two lists
-pub padded-both : (n : ℕ) (xs ys : List ℕ) →
+padded-both : (n : ℕ) (xs ys : List ℕ) →
     padded n (xs ++ ys) ≡ take n xs ++ take (n - length xs) ys ++ replicate (n - length xs - length ys) 0
 padded-both n xs ys =
     let e : n - length (xs ++ ys) ≡ n - length xs - length ys = omega (arith, length-append xs ys) in
@@ -115,19 +115,17 @@ module _ (entries out : List ℕ) where
   pub laid-all : (n : ℕ) → 64 * n ≡ length out → Laid n ≡ planBlocks n entries
   laid-all n e = rw (drop-of-length-le out {i = 64 * n} (omega arith)) (append-nil (planBlocks n entries))
 
--- the trailer's seven bytes, and zeros after them
-module _ (out : List ℕ) (blocks startup cycle a b d e f g : ℕ) (whole : length out ≡ 64) where
-  abbrev seven : List ℕ
-  seven = 2 ∷ a ∷ b ∷ d ∷ e ∷ f ∷ g ∷ []
-
-  pub trailer-laid : a ≡ blocks % 256 → b ≡ blocks / 256 → d ≡ startup % 256 → e ≡ startup / 256 → f ≡ cycle % 256 → g ≡ cycle / 256
-      → (q : List ℕ) → q ≡ take 7 (sets out 0 seven) ++ replicate (length (sets out 0 seven) - 7) 0 → q ≡ trailer blocks startup cycle
-  trailer-laid ea eb ed ee ef eg q laid =
-      let n : length (sets out 0 seven) - 7 ≡ 57 = omega (arith, length-sets out 0 seven) in
-      laid
-      ∙ ap (λ (k : ℕ). take 7 (sets out 0 seven) ++ replicate k 0) n
-      ∙ ap (λ (l : List ℕ). take 7 l ++ replicate 57 0) (sets-eq seven out 0 (omega arith))
-      ∙ rw (ea, eb, ed, ee, ef, eg)
+-- the trailer: its kind, its three numbers, and zeros after them
+pub trailer-laid : (out : List ℕ) (blocks startup cycle : ℕ) → length out ≡ 64 → (a b d q : List ℕ)
+    → a ≡ sets (set out 0 2) 1 (twoBytes blocks) → b ≡ sets a 3 (twoBytes startup) → d ≡ sets b 5 (twoBytes cycle)
+    → q ≡ take 7 d ++ replicate (length d - 7) 0 → q ≡ trailer blocks startup cycle
+trailer-laid out blocks startup cycle whole a b d q ea eb ed laid =
+    let e : d ≡ sets out 0 (2 ∷ (twoBytes blocks ++ twoBytes startup ++ twoBytes cycle)) = rw (ed, eb, ea) in
+    let n : length d - 7 ≡ 57 = omega (arith, whole, ap length e, length-sets out 0 (2 ∷ (twoBytes blocks ++ twoBytes startup ++ twoBytes cycle))) in
+    laid
+    ∙ ap (λ (k : ℕ). take 7 d ++ replicate k 0) n
+    ∙ ap (λ (l : List ℕ). take 7 l ++ replicate 57 0)
+    (e ∙ sets-eq (2 ∷ (twoBytes blocks ++ twoBytes startup ++ twoBytes cycle)) out 0 (omega arith))
 
 -- a front, and what is laid after it up to the end
 pub laid-both : (out front last : List ℕ) (n : ℕ) → length front ≡ n

@@ -11,47 +11,47 @@ use lib.Seq.{drop-drop}
 use borrow.Author.Tests.{lt-ltb, le-ltb}
 use Rattle.format.specs.Blocks.{blocksFor, planBytes}
 use Rattle.format.proofs.PowerCut.{bytes-length}
-use Rattle.packing.specs.declared.Appended.the-variants.{Used, Full}
-use Rattle.packing.specs.Packing.{used, isFull, end, PackedAt}
+use Rattle.packing.specs.declared.Appended.the-variants.{Used, Refused}
+use Rattle.packing.specs.Packing.{bytes, unfit, end, PackedAt}
 
 module _ (log : List ℕ) (place : ℕ) (startup cycle : List ℕ) where
   abbrev tooLong : Bool
   tooLong = ltb (length log - place) (length (planBytes startup cycle))
 
-  full : isFull log place startup cycle ≡ true → PackedAt log place startup cycle Full log
-  full e = rw e (record { is-number = refl; unchanged = refl })
+  refused : unfit log place startup cycle ≡ true → PackedAt log place startup cycle Refused log
+  refused e = rw e (record { is-number = refl; unchanged = refl })
 
-  pub full-startup : 65535 < length startup → PackedAt log place startup cycle Full log
-  full-startup h = full (rw (lt-ltb 65535 (length startup) h, or-true tooLong))
+  pub refused-startup : 65535 < length startup → PackedAt log place startup cycle Refused log
+  refused-startup h = refused (rw (lt-ltb 65535 (length startup) h, or-true tooLong))
 
-  pub full-cycle : 65535 < length cycle → PackedAt log place startup cycle Full log
-  full-cycle h = full (rw (lt-ltb 65535 (length cycle) h) (or-true (tooLong || ltb 65535 (length startup))))
+  pub refused-cycle : 65535 < length cycle → PackedAt log place startup cycle Refused log
+  refused-cycle h = refused (rw (lt-ltb 65535 (length cycle) h) (or-true (tooLong || ltb 65535 (length startup))))
 
-  full-log : length log - place < length (planBytes startup cycle) → PackedAt log place startup cycle Full log
-  full-log h = full (rw (lt-ltb (length log - place) (length (planBytes startup cycle)) h))
+  refused-log : length log - place < length (planBytes startup cycle) → PackedAt log place startup cycle Refused log
+  refused-log h = refused (rw (lt-ltb (length log - place) (length (planBytes startup cycle)) h))
 
-  pub full-past : length log < place → PackedAt log place startup cycle Full log
-  full-past h = full-log (omega (arith, h, bytes-length startup cycle))
+  pub refused-past : length log < place → PackedAt log place startup cycle Refused log
+  refused-past h = refused-log (omega (arith, h, bytes-length startup cycle))
 
   -- the plan's length as it is computed
   module _ (n : ℕ) (is-n : n ≡ 64 * blocksFor (length startup + length cycle) + 64) where
     long : n ≡ length (planBytes startup cycle)
     long = omega (arith, is-n, bytes-length startup cycle)
 
-    pub full-room : length log - place < n → PackedAt log place startup cycle Full log
-    full-room h = full-log (rw long at h)
+    pub refused-room : length log - place < n → PackedAt log place startup cycle Refused log
+    refused-room h = refused-log (rw long at h)
 
     pub placed : length startup ≤ 65535 → length cycle ≤ 65535 → n ≤ length log - place → (part : List ℕ) → part ≡ planBytes startup cycle
         → PackedAt log place startup cycle (Used (place + n)) (take place log ++ (part ++ drop (place + n - place) (drop place log)))
     placed small small2 room part laid =
-        let fits : isFull log place startup cycle ≡ false =
+        let fits : unfit log place startup cycle ≡ false =
         rw (
           le-ltb (length log - place) (length (planBytes startup cycle)) (rw long at room),
           le-ltb 65535 (length startup) small,
           le-ltb 65535 (length cycle) small2,
         ) in
         rw fits (record {
-          is-used = ap (λ (k : ℕ). used (place + k)) long;
+          is-used = ap (λ (k : ℕ). bytes (place + k)) long;
           log-left =
               rw (laid, add-sub-cancel-left place n, drop-drop n place log, long)
               (sym (append-assoc (take place log) (planBytes startup cycle) (drop (end log place startup cycle) log)));

@@ -1,12 +1,17 @@
 // A plan, laid as blocks, from its first byte to its last.
 ghost use mathlib.Core.Path.{_≡_};
 ghost use mathlib.Core.List.{_∷_, _++_};
-ghost use Prim.Native.Nat.{_+_, _-_, _*_, _/_, _%_, _≤_};
+ghost use Prim.Native.Nat.{suc, _+_, _-_, _*_, _≤_, _<_};
 ghost use lib.ListN.{length, drop};
-ghost use Rattle.format.specs.Blocks.{blockLength, carriedLength, planKind, padded, planBlocks, blocksFor, trailer, planBytes, largestLength};
+ghost use lib.Seq.{sets};
+ghost use Rattle.format.specs.Blocks.{blockLength, carriedLength, planKind, padded, planBlocks, blocksFor, twoBytes, trailer, planBytes, largestLength};
 use format::BLOCK;
 use format::CARRIED;
+use format::COUNT_AT;
+use format::CYCLE_AT;
 use format::PLAN;
+use format::REST_AT;
+use format::STARTUP_AT;
 use format::TRAILER;
 
 pub(crate) fn whole(out: &mut [u8], startup: &[u8], cycle: &[u8])
@@ -60,24 +65,20 @@ fn trailer(out: &mut [u8], count: usize, startup: usize, cycle: usize)
     ensures { λ _. ⌜ now (out .exit) ≡ trailer count startup cycle ⌝ }
 {
     out[0] = TRAILER;
-    out[1] = low(count);
-    out[2] = high(count);
-    out[3] = low(startup);
-    out[4] = high(startup);
-    out[5] = low(cycle);
-    out[6] = high(cycle);
-    copying::zeros(out, 7);
+    number(out, COUNT_AT, count);
+    number(out, STARTUP_AT, startup);
+    number(out, CYCLE_AT, cycle);
+    copying::zeros(out, REST_AT);
 }
 
-fn low(n: usize) -> u8
-    ensures { λ r. ⌜ r ≡ n % 256 ⌝ }
-{
-    (n % 256) as u8
-}
-
-fn high(n: usize) -> u8
+// A 16-bit number, low byte first.
+fn number(out: &mut [u8], at: usize, n: usize)
+    requires { ⌜ suc at < length (now out) ⌝ }
     requires { ⌜ n ≤ largestLength ⌝ }
-    ensures { λ r. ⌜ r ≡ n / 256 ⌝ }
+    ensures { λ _. ⌜ now (out .exit) ≡ sets (now (out .entry)) at (twoBytes n) ⌝ }
 {
-    (n / 256 % 256) as u8
+    let low = (n % 256) as u8;
+    let high = (n / 256 % 256) as u8;
+    out[at] = low;
+    out[at + 1] = high;
 }

@@ -8,10 +8,10 @@ ghost use Rattle.packing.specs.Packing.{PackedAt};
 use format::BLOCK;
 use format::LARGEST;
 
-// The bytes that are used then, or that the plan is refused: number 23.
+// How many bytes are used then, or that the plan is refused: number 23.
 pub enum Appended {
     Used(usize),
-    Full,
+    Refused,
 }
 
 // Lays a plan and its trailer from place `at` on, unless they don't fit or a length is above 65,535.
@@ -19,17 +19,17 @@ pub fn plan(log: &mut [u8], at: usize, startup: &[u8], cycle: &[u8]) -> Appended
     ensures { λ r. ⌜ PackedAt (now (log .entry)) at (now (startup .entry)) (now (cycle .entry)) r (now (log .exit)) ⌝ }
 {
     if LARGEST < startup.len() {
-        return Appended::Full;
+        return Appended::Refused;
     }
     if LARGEST < cycle.len() {
-        return Appended::Full;
+        return Appended::Refused;
     }
     if log.len() < at {
-        return Appended::Full;
+        return Appended::Refused;
     }
     let n = length(startup.len(), cycle.len());
     if log.len() - at < n {
-        return Appended::Full;
+        return Appended::Refused;
     }
     lay::whole(&mut log[at..at + n], startup, cycle);
     Appended::Used(at + n)

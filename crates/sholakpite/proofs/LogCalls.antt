@@ -8,20 +8,27 @@ use lib.Dec.{ltb}
 use lib.ListN.{length, set, drop}
 use lib.Seq.{sets-eq}
 use borrow.Author.Tests.{lt-ltb, le-ltb}
+use Rattle.packing.specs.declared.Appended.the-variants.{Used}
 use Rattle.packing.specs.Packing as packing
 use Rattle.unpacking.specs.declared.Found.{Found}
 use Rattle.unpacking.specs.declared.Found.the-variants.{Plan}
 use Rattle.unpacking.specs.Unpacking as unpacking
-use Rattle.log.specs.Log.{ReadAs}
+use Rattle.log.specs.Log.{AppendedAs, ReadAs}
 use Rattle.log.proofs.Pinned.{append-pinned, read-pinned}
+use Rattle.log.proofs.PowerCut.{used-blocks}
 use Rattle.sholakpite.specs.Logs.{appendCode, readCode, lengthWords, AnsweredAppend, NotUnderstood, Understood, AnsweredRead}
 
 -- `sholakpite_append` has one outcome
-pub append-call-pinned : (log : List ℕ) (count : ℕ) (startup cycle : List ℕ) (n n′ : ℕ) (left left′ : List ℕ)
-    → AnsweredAppend log count startup cycle n left → AnsweredAppend log count startup cycle n′ left′ → (n ≡ n′) × (left ≡ left′)
-append-call-pinned log count startup cycle n n′ left left′ x y =
-    let e = append-pinned log count startup cycle (x .answer) (y .answer) left left′ (x .appended) (y .appended) in
+pub append-call-pinned : (log : List ℕ) (used : ℕ) (startup cycle : List ℕ) (n n′ : ℕ) (left left′ : List ℕ)
+    → AnsweredAppend log used startup cycle n left → AnsweredAppend log used startup cycle n′ left′ → (n ≡ n′) × (left ≡ left′)
+append-call-pinned log used startup cycle n n′ left left′ x y =
+    let e = append-pinned log used startup cycle (x .answer) (y .answer) left left′ (x .appended) (y .appended) in
     (x .is-code ∙ ap (λ r. appendCode (packing.reply r)) (e .0) ∙ sym (y .is-code), e .1)
+
+-- so many bytes used can't be mistaken for a refusal
+pub never-23 : (log : List ℕ) (used : ℕ) (startup cycle : List ℕ) (n : ℕ) (after : List ℕ)
+    → AppendedAs log used startup cycle (Used n) after → n ≡ 23 → ⊥
+never-23 log used startup cycle n after h e = omega (arith, e, used-blocks log used startup cycle n after h)
 
 two-words : (words : List ℕ) (a b : ℕ) → 2 ≤ length words → set (set words 0 a) 1 b ≡ a ∷ b ∷ drop 2 words
 two-words words a b h = sets-eq (a ∷ b ∷ []) words 0 (omega arith)

@@ -11,9 +11,9 @@ use Rattle.unpacking.specs.declared.Found.{Found}
 use Rattle.unpacking.specs.Unpacking as unpacking
 use Rattle.log.specs.Log.{AppendedAs, ReadAs}
 
--- how many bytes are used then, or the request's number: no log has 23 bytes (`never-23`)
+-- how many bytes are used then, or the request's number: after an append that is never the number of bytes (`never-23`)
 abbrev pub appendCode : packing.Reply → ℕ
-appendCode (packing.used n) = n
+appendCode (packing.bytes n) = n
 appendCode (packing.number n) = n
 
 -- 0 for a plan, or the request's number
@@ -27,9 +27,9 @@ lengthWords (unpacking.lengths a b) = a ∷ b ∷ []
 lengthWords (unpacking.number n) = []
 
 -- `log` is the buffer as it was lent, `left` as it is left, n what is answered
-pub record AnsweredAppend (log : List ℕ) (count : ℕ) (startup cycle : List ℕ) (n : ℕ) (left : List ℕ) : Type 0 where
+pub record AnsweredAppend (log : List ℕ) (used : ℕ) (startup cycle : List ℕ) (n : ℕ) (left : List ℕ) : Type 0 where
   pub answer : Appended
-  pub appended : AppendedAs log count startup cycle answer left
+  pub appended : AppendedAs log used startup cycle answer left
   pub is-code : n ≡ appendCode (packing.reply answer)
 
 -- `startup`, `cycle` and `words` are the buffers as they were lent, s, c and w as they are left

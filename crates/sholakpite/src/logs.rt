@@ -14,7 +14,7 @@ pub extern "C" fn sholakpite_append(log: &mut [u8], used: u64, startup: &[u8], c
 {
     match log::append(log, used as usize, startup, cycle) {
         Appended::Used(n) => n as u64,
-        Appended::Full => 23,
+        Appended::Refused => 23,
     }
 }
 

@@ -11,6 +11,8 @@ use borrow.Author.Tests.{eq-eqb, ne-eqb, lt-ltb, le-ltb, ltb-false, eqb-true, no
 use Rattle.format.specs.Blocks.{blocksFor}
 use Rattle.format.specs.Newest.{blockCount, startupLength, cycleLength, entriesLength, covered, entries, isDamaged, allPlan, allZero, carried, wrongCount, beforeStart, otherKind, nonzeroPad, nonzeroRest}
 use Rattle.format.proofs.Lists.{to-end}
+use Rattle.format.proofs.Either.{or-last, or-first, or-none}
+use Rattle.unpacking.proofs.Covered.{part, part-is, part-length}
 use Rattle.unpacking.proofs.Taking.{carried-drop}
 
 -- the pads are the last bytes of the blocks: n first bytes and e entries come before them
@@ -31,12 +33,6 @@ pads-last (suc n) e blocks w h =
     ∙ drop-drop (e - 63 * n) (64 * n + 1) blocks
     ∙ ap (λ (i : ℕ). drop i blocks) j
 
-or-last : (a b : Bool) → b ≡ true → (a || b) ≡ true
-or-last a b e = rw e (or-true a)
-
-or-first : (a b : Bool) → a ≡ true → (a || b) ≡ true
-or-first a b e = rw e
-
 -- the trailer's three numbers, as they are read
 module _ (before trailer : List ℕ) (count startup cycle : ℕ)
     (is-count : count ≡ blockCount trailer) (is-startup : startup ≡ startupLength trailer) (is-cycle : cycle ≡ cycleLength trailer) where
@@ -46,12 +42,11 @@ module _ (before trailer : List ℕ) (count startup cycle : ℕ)
   is-sum : sum ≡ entriesLength trailer
   is-sum = rw (is-startup, is-cycle)
 
-  -- what it covers, as a part of what is before
-  abbrev part : List ℕ
-  part = take (length before - (length before - 64 * count)) (drop (length before - 64 * count) before)
+  abbrev blocks : List ℕ
+  blocks = part before count
 
-  part-covered : part ≡ covered before trailer
-  part-covered = to-end before (length before - 64 * count) ∙ ap (λ (k : ℕ). drop (length before - 64 * k) before) is-count
+  blocks-covered : blocks ≡ covered before trailer
+  blocks-covered = part-is before count ∙ ap (λ (k : ℕ). drop (length before - 64 * k) before) is-count
 
   abbrev w : Bool
   w = wrongCount trailer
@@ -78,41 +73,33 @@ module _ (before trailer : List ℕ) (count startup cycle : ℕ)
       let e : b ≡ true = lt-ltb (length before) (64 * blockCount trailer) (rw is-count at h) in
       sym (or-first (w || b || o || p) r (or-first (w || b || o) p (or-first (w || b) o (or-last w b e))))
 
-  pub by-kind : allPlan count part ≡ false → true ≡ isDamaged before trailer
+  pub by-kind : allPlan count blocks ≡ false → true ≡ isDamaged before trailer
   by-kind h =
-      let e : o ≡ true = ap not (rw (part-covered, is-count) at h) in
+      let e : o ≡ true = ap not (rw (blocks-covered, is-count) at h) in
       sym (or-first (w || b || o || p) r (or-first (w || b || o) p (or-last (w || b) o e)))
 
   module _ (right : count ≡ blocksFor sum) (inside : 64 * count ≤ length before) where
     abbrev pads : List ℕ
-    pads = take (length part - (count + sum)) (drop (count + sum) part)
-
-    part-length : length part ≡ 64 * count
-    part-length =
-        ap length (to-end before (length before - 64 * count)) ∙ length-drop (length before - 64 * count) before ∙ omega arith
+    pads = take (length blocks - (count + sum)) (drop (count + sum) blocks)
 
     pads-are : pads ≡ drop (entriesLength trailer) (entries before trailer)
     pads-are =
-        to-end part (count + sum)
-        ∙ sym (pads-last count sum part part-length (omega arith))
-        ∙ rw (part-covered, is-count, is-sum)
+        to-end blocks (count + sum)
+        ∙ sym (pads-last count sum blocks (part-length before count inside) (omega arith))
+        ∙ rw (blocks-covered, is-count, is-sum)
 
     pub by-pad : allZero pads ≡ false → true ≡ isDamaged before trailer
     by-pad h =
         let e : p ≡ true = ap not (ap allZero (sym pads-are) ∙ h) in
         sym (or-first (w || b || o || p) r (or-last (w || b || o) p e))
 
-    pub by-rest : allPlan count part ≡ true → allZero pads ≡ true → not (allZero (take (length trailer - 7) (drop 7 trailer))) ≡ isDamaged before trailer
+    pub by-rest : allPlan count blocks ≡ true → allZero pads ≡ true → not (allZero (take (length trailer - 7) (drop 7 trailer))) ≡ isDamaged before trailer
     by-rest kinds zeros =
         let ew : w ≡ false = ap not (eq-eqb (blockCount trailer) (blocksFor (entriesLength trailer)) (rw (is-count, is-sum) at right)) in
         let eb : b ≡ false = le-ltb (length before) (64 * blockCount trailer) (rw is-count at inside) in
-        let eo : o ≡ false = ap not (rw (part-covered, is-count) at kinds) in
+        let eo : o ≡ false = ap not (rw (blocks-covered, is-count) at kinds) in
         let ep : p ≡ false = ap not (ap allZero (sym pads-are) ∙ zeros) in
         rw (ew, eb, eo, ep, to-end trailer 7)
-
-pub or-none : (a b : Bool) → (a || b) ≡ false → (a ≡ false) × (b ≡ false)
-or-none true b e = (e, absurd (true≢false e))
-or-none false b e = (refl, e)
 
 -- a trailer that is not refused: as many blocks as its entries take, and none of them before the start
 module _ (before trailer : List ℕ) (fine : isDamaged before trailer ≡ false) where

@@ -1,4 +1,4 @@
--- What `read` answers and leaves, case by case.
+-- What `plan` answers and leaves, case by case.
 use mathlib.Core.Path.{_≡_, refl, sym, _∙_, ap}
 use mathlib.Core.Bool.{true, false, _||_, or-true}
 use mathlib.Core.List.{List, _++_}
@@ -9,7 +9,7 @@ use lib.ListN.{length, take, drop, length-take, length-drop}
 use lib.Seq.{length-take-le}
 use borrow.Author.Tests.{lt-ltb, le-ltb}
 use Rattle.format.specs.Newest.{Newest, none, damaged, blockCount, startupLength, cycleLength, entries, carried, isDamaged, planBefore}
-use Rattle.format.proofs.Lists.{to-end}
+use Rattle.unpacking.proofs.Covered.{part, part-is, part-length}
 use Rattle.unpacking.proofs.Damaged.{right-count, inside}
 use Rattle.unpacking.proofs.Newest.{plan-found, startup-whole, cycle-whole}
 use Rattle.unpacking.specs.declared.Found.the-variants.{Plan, Nothing, Damaged, Short}
@@ -47,34 +47,31 @@ module _ (startup cycle : List ℕ) where
     pub short-cycle : length cycle < c → ReadOff startup cycle Short startup cycle (planBefore before trailer)
     short-cycle h = short (rw (lt-ltb (length cycle) (length second) (rw second-length h)) (or-true (ltb (length startup) (length first))))
 
-    -- what the trailer covers, as a part of what is before
-    abbrev part : List ℕ
-    part = take (length before - (length before - 64 * count)) (drop (length before - 64 * count) before)
+    abbrev blocks : List ℕ
+    blocks = part before count
 
-    part-length : length part ≡ 64 * count
-    part-length =
-        ap length (to-end before (length before - 64 * count)) ∙ length-drop (length before - 64 * count) before
-        ∙ omega (arith, is-count, inside before trailer fine)
+    fits : 64 * count ≤ length before
+    fits = omega (arith, is-count, inside before trailer fine)
 
     -- the blocks carry all of both parts
-    pub asks-startup : (length part ≡ 64 * count) × (0 + length (take s startup) ≤ 63 * count)
-    asks-startup = (part-length, omega (arith, length-take s startup, is-count, is-s, right-count before trailer fine))
+    pub asks-startup : (length blocks ≡ 64 * count) × (0 + length (take s startup) ≤ 63 * count)
+    asks-startup = (part-length before count fits, omega (arith, length-take s startup, is-count, is-s, right-count before trailer fine))
 
-    pub asks-cycle : (length part ≡ 64 * count) × (s + length (take c cycle) ≤ 63 * count)
-    asks-cycle = (part-length, omega (arith, length-take c cycle, is-count, is-s, is-c, right-count before trailer fine))
+    pub asks-cycle : (length blocks ≡ 64 * count) × (s + length (take c cycle) ≤ 63 * count)
+    asks-cycle = (part-length before count fits, omega (arith, length-take c cycle, is-count, is-s, is-c, right-count before trailer fine))
 
-    carries : carried count part ≡ entries before trailer
-    carries = rw (to-end before (length before - 64 * count), is-count)
+    carries : carried count blocks ≡ entries before trailer
+    carries = rw (part-is before count, is-count)
 
     pub handed : s ≤ length startup → c ≤ length cycle → (x y : List ℕ)
-        → x ≡ take (length (take s startup)) (drop 0 (carried count part)) → y ≡ take (length (take c cycle)) (drop s (carried count part))
+        → x ≡ take (length (take s startup)) (drop 0 (carried count blocks)) → y ≡ take (length (take c cycle)) (drop s (carried count blocks))
         → ReadOff startup cycle (Plan s c) (x ++ drop s startup) (y ++ drop c cycle) (planBefore before trailer)
     handed h k x y ex ey =
-        let fits : (ltb (length startup) (length first) || ltb (length cycle) (length second)) ≡ false =
+        let whole : (ltb (length startup) (length first) || ltb (length cycle) (length second)) ≡ false =
         rw (le-ltb (length startup) (length first) (rw first-length h), le-ltb (length cycle) (length second) (rw second-length k)) in
         let fx : x ≡ first = ex ∙ rw (length-take-le s startup h, carries, is-s) in
         let fy : y ≡ second = ey ∙ rw (length-take-le c cycle k, carries, is-s, is-c) in
-        rw (plan-found before trailer fine, fits) (record {
+        rw (plan-found before trailer fine, whole) (record {
           is-lengths = rw (first-length, second-length);
           startup-left = rw (fx, first-length);
           cycle-left = rw (fy, second-length);

@@ -1,4 +1,5 @@
 pub mod Tests
+pub mod Covered
 pub mod Taking
 pub mod Damaged
 pub mod Newest

@@ -1,5 +1,5 @@
 -- The newest plan, by the parts that it is read off.
-use mathlib.Core.Path.{_≡_, _∙_, ap}
+use mathlib.Core.Path.{_≡_, sym, _∙_, ap}
 use mathlib.Core.Bool.{true, false}
 use mathlib.Core.List.{List}
 use Prim.Native.Nat.{ℕ, _+_, _-_, _*_, _≤_, _<_}
@@ -9,6 +9,7 @@ use lib.Seq.{length-take-le}
 use borrow.Author.Tests.{lt-ltb, le-ltb}
 use Rattle.format.specs.Newest.{none, damaged, plan, blockCount, startupLength, cycleLength, covered, entries, isDamaged, planBefore, newestOf}
 use Rattle.format.proofs.Lists.{to-end}
+use Rattle.unpacking.proofs.Covered.{part-is, part-length}
 use Rattle.unpacking.proofs.Damaged.{right-count, inside}
 use Rattle.unpacking.proofs.Taking.{carried-length}
 
@@ -41,8 +42,7 @@ module _ (before trailer : List ℕ) (fine : isDamaged before trailer ≡ false)
   plan-found = rw fine
 
   covered-length : length (covered before trailer) ≡ 64 * blockCount trailer
-  covered-length =
-      length-drop (length before - 64 * blockCount trailer) before ∙ omega (arith, inside before trailer fine)
+  covered-length = sym (ap length (part-is before (blockCount trailer))) ∙ part-length before (blockCount trailer) (inside before trailer fine)
 
   enough : startupLength trailer + cycleLength trailer ≤ length (entries before trailer)
   enough =

@@ -5,7 +5,11 @@ ghost use lib.ListN.{length};
 ghost use Rattle.format.specs.Blocks.{blockLength, largestLength};
 ghost use Rattle.format.specs.Newest.{numberAt, allPlan, allZero, isDamaged};
 use format::BLOCK;
+use format::COUNT_AT;
+use format::CYCLE_AT;
 use format::PLAN;
+use format::REST_AT;
+use format::STARTUP_AT;
 
 // A 16-bit number from place i on, low byte first.
 pub(crate) fn number(bytes: &[u8], i: usize) -> usize
@@ -23,8 +27,8 @@ pub(crate) fn damaged(before: &[u8], trailer: &[u8]) -> bool
     requires { ⌜ length (now trailer) ≡ blockLength ⌝ }
     ensures { λ r. ⌜ r ≡ isDamaged (now (before .entry)) (now (trailer .entry)) ⌝ }
 {
-    let count = number(trailer, 1);
-    let entries = number(trailer, 3) + number(trailer, 5);
+    let count = number(trailer, COUNT_AT);
+    let entries = number(trailer, STARTUP_AT) + number(trailer, CYCLE_AT);
     if count != format::blocks_for(entries) {
         return true;
     }
@@ -40,7 +44,7 @@ pub(crate) fn damaged(before: &[u8], trailer: &[u8]) -> bool
     if !all_zero(&covered[pad..]) {
         return true;
     }
-    !all_zero(&trailer[7..])
+    !all_zero(&trailer[REST_AT..])
 }
 
 fn all_plan(blocks: &[u8], count: usize) -> bool

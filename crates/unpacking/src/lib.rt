@@ -10,6 +10,9 @@ ghost use Rattle.format.specs.Newest.{carried, isDamaged, planBefore, newestOf}
 ghost use Rattle.unpacking.specs.Unpacking.{ReadOff};
 use format::BLOCK;
 use format::CARRIED;
+use format::COUNT_AT;
+use format::CYCLE_AT;
+use format::STARTUP_AT;
 
 // The lengths of the plan's two parts; or number 20, no plan; 21, a trailer that is refused; 22, a buffer shorter than its part.
 pub enum Found {
@@ -19,7 +22,7 @@ pub enum Found {
     Short,
 }
 
-// Of a log that has been cut back: its last block, if it has one, is the trailer.
+// Hands over the plan before the last block of a log, which is a trailer where the log has been cut back.
 pub fn plan(log: &[u8], startup: &mut [u8], cycle: &mut [u8]) -> Found
     ensures { λ r. ⌜ ReadOff (now (startup .entry)) (now (cycle .entry)) r (now (startup .exit)) (now (cycle .exit)) (newestOf (now (log .entry))) ⌝ }
 {
@@ -41,9 +44,9 @@ fn hand(before: &[u8], trailer: &[u8], startup: &mut [u8], cycle: &mut [u8]) -> 
     requires { ⌜ isDamaged (now before) (now trailer) ≡ false ⌝ }
     ensures { λ r. ⌜ ReadOff (now (startup .entry)) (now (cycle .entry)) r (now (startup .exit)) (now (cycle .exit)) (planBefore (now (before .entry)) (now (trailer .entry))) ⌝ }
 {
-    let count = check::number(trailer, 1);
-    let s = check::number(trailer, 3);
-    let c = check::number(trailer, 5);
+    let count = check::number(trailer, COUNT_AT);
+    let s = check::number(trailer, STARTUP_AT);
+    let c = check::number(trailer, CYCLE_AT);
     if startup.len() < s {
         return Found::Short;
     }

@@ -40,3 +40,9 @@ pub fn last_trailer(log: &[u8]) -> Option<usize> {
     log.chunks_exact(BLOCK)
         .rposition(|block| block[0] == TRAILER)
 }
+
+/// These bytes, and 0 up to the block's end.
+#[cfg(test)]
+fn padded(front: &[u8]) -> Vec<u8> {
+    [front, &vec![0; 64 - front.len()]].concat()
+}

@@ -71,10 +71,7 @@ fn opened(blocks: &[u8]) -> (Vec<u8>, Vec<u8>) {
 #[cfg(test)]
 mod tests {
     use super::*;
-
-    fn padded(front: &[u8]) -> Vec<u8> {
-        [front, &vec![0; 64 - front.len()]].concat()
-    }
+    use crate::log::padded;
 
     fn newest(startup: &[u8], cycle: &[u8]) -> Found {
         let (startup, cycle) = (startup.to_vec(), cycle.to_vec());

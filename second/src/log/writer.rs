@@ -11,7 +11,7 @@ pub struct Refused {
 
 /// Appends to the log that the first `used` bytes are, or all: how many are used then.
 pub fn append(buffer: &mut [u8], used: u64, plan: &Plan) -> Result<usize, Refused> {
-    let used = buffer.len().min(used as usize);
+    let used = (buffer.len() as u64).min(used) as usize;
     let start = end_of_last_plan(&buffer[..used]);
     let blocks = written(plan);
     let refused = Refused {
@@ -60,15 +60,15 @@ fn block(kind: u8, front: &[u8]) -> Vec<u8> {
 #[cfg(test)]
 mod tests {
     use super::*;
+    use crate::log::padded;
 
     fn plan(startup: &[u8], cycle: &[u8]) -> Plan {
         let (startup, cycle) = (startup.to_vec(), cycle.to_vec());
         Plan { startup, cycle }
     }
 
-    /// These bytes, and 0 up to the block's end.
-    fn padded(front: &[u8]) -> Vec<u8> {
-        [front, &vec![0; 64 - front.len()]].concat()
+    fn refused(room: bool, length: bool) -> Result<usize, Refused> {
+        Err(Refused { room, length })
     }
 
     #[test]
@@ -116,13 +116,11 @@ mod tests {
             log[133_120..133_184],
             padded(&[&[1][..], &[9; 30]].concat())
         );
-        let refused = |room, length| Err(Refused { room, length });
         assert_eq!(append(&mut log[1..], 0, &longest), refused(true, false));
     }
 
     #[test]
     fn a_length_above_16_bits_is_refused_whatever_the_room() {
-        let refused = |room, length| Err(Refused { room, length });
         let mut log = vec![0; 70_000];
         let startup = plan(&[0; 65_536], &[]);
         let cycle = plan(&[], &[0; 65_536]);

@@ -9,9 +9,9 @@ use Rattle.log.specs.Log.{start, AppendedAs}
 use Rattle.log.proofs.append.Statement.{statement}
 use Rattle.log.proofs.append.Tie as tie
 
-from-start : (log : List ℕ) (count : ℕ) (startup cycle : List ℕ) (r : Appended) (left : List ℕ) (place : ℕ) → place ≡ start log count
-    → PackedAt log place startup cycle r left → AppendedAs log count startup cycle r left
-from-start log count startup cycle r left place e h = rw e at h
+from-start : (log : List ℕ) (used : ℕ) (startup cycle : List ℕ) (r : Appended) (left : List ℕ) (place : ℕ) → place ≡ start log used
+    → PackedAt log place startup cycle r left → AppendedAs log used startup cycle r left
+from-start log used startup cycle r left place e h = rw e at h
 
 start-requires : tie.Need-start-requires
 start-requires c κs = search needs

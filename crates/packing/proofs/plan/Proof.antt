@@ -1,24 +1,24 @@
 -- `plan` meets its contract: each refusal, and the plan laid at its place.
 use native.Mathlib.Omega.{arith}
 use borrow.Author.Needs.{needs}
-use Rattle.packing.proofs.Placing.{full-startup, full-cycle, full-past, full-room, placed}
+use Rattle.packing.proofs.Placing.{refused-startup, refused-cycle, refused-past, refused-room, placed}
 use Rattle.packing.proofs.plan.Statement.{statement}
 use Rattle.packing.proofs.plan.Tie as tie
 
 returns : tie.Need-returns
 returns c =
     let x = c .before .before .before .before .args in
-    full-startup (x .log .now) (x .at) (x .startup .now) (x .cycle .now) (omega arith)
+    refused-startup (x .log .now) (x .at) (x .startup .now) (x .cycle .now) (omega arith)
 
 returns-2 : tie.Need-returns-2
 returns-2 c =
     let x = c .before .before .before .before .before .args in
-    full-cycle (x .log .now) (x .at) (x .startup .now) (x .cycle .now) (omega arith)
+    refused-cycle (x .log .now) (x .at) (x .startup .now) (x .cycle .now) (omega arith)
 
 returns-3 : tie.Need-returns-3
 returns-3 c =
     let x = c .before .before .before .before .before .before .args in
-    full-past (x .log .now) (x .at) (x .startup .now) (x .cycle .now) (omega arith)
+    refused-past (x .log .now) (x .at) (x .startup .now) (x .cycle .now) (omega arith)
 
 length-requires : tie.Need-length-requires
 length-requires c κs = search needs
@@ -30,7 +30,7 @@ returns-4 : tie.Need-returns-4
 returns-4 c =
     let n = c .before in
     let x = n .before .before .before .before .before .before .before .args in
-    full-room (x .log .now) (x .at) (x .startup .now) (x .cycle .now) (n .length .result) (n .length .ensures) (omega arith)
+    refused-room (x .log .now) (x .at) (x .startup .now) (x .cycle .now) (n .length .result) (n .length .ensures) (omega arith)
 
 add-whole : tie.Need-add-whole
 add-whole c = search needs

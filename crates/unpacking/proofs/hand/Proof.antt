@@ -25,7 +25,7 @@ returns c =
     let s = a .before .before .before .before .before in
     let x = s .args in
     short-startup (x .startup .now) (x .cycle .now) (x .before .now) (x .trailer .now) (s .pre .1) (a .number .result) (b .number2 .result) (t .number3 .result)
-    (a .number .ensures .0) (b .number2 .ensures .0) (t .number3 .ensures .0) (c .if1 .taken)
+    (a .number .ensures .0) (b .number2 .ensures .0) (t .number3 .ensures .0) (omega arith)
 
 returns-2 : tie.Need-returns-2
 returns-2 c =
@@ -35,7 +35,7 @@ returns-2 c =
     let s = a .before .before .before .before .before in
     let x = s .args in
     short-cycle (x .startup .now) (x .cycle .now) (x .before .now) (x .trailer .now) (s .pre .1) (a .number .result) (b .number2 .result) (t .number3 .result)
-    (a .number .ensures .0) (b .number2 .ensures .0) (t .number3 .ensures .0) (c .if2 .taken)
+    (a .number .ensures .0) (b .number2 .ensures .0) (t .number3 .ensures .0) (omega arith)
 
 mul-covered : tie.Need-mul-covered
 mul-covered c = search needs

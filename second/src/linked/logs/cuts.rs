@@ -133,7 +133,8 @@ fn append_after(log: &Log, cut: usize, random: &mut Random) -> Vec<String> {
     lines
 }
 
-/// Without its first block a plan points before the start, also where that block stands right before what is lent.
+/// The log without its first block. Where there is an earlier plan, the newest one is untouched. Where there is none,
+/// it points before the start, and the lost block stands right before what is lent; a trailer alone leaves nothing.
 fn lose_front(log: &Log, random: &mut Random) -> Vec<String> {
     let left = &log.part()[BLOCK..];
     let lines = read_left(left, &find(left), random);

@@ -6,6 +6,12 @@ use borrow.Author.Needs.{needs}
 use Rattle.cuts.proofs.tally.look.Statement.{statement}
 use Rattle.cuts.proofs.tally.look.Tie as tie
 
+spoil-requires : tie.Need-spoil-requires
+spoil-requires c κs = search needs
+
+spoil-requires-2 : tie.Need-spoil-requires-2
+spoil-requires-2 c κs = search needs
+
 read-requires : tie.Need-read-requires
 read-requires c κs = search needs
 
@@ -94,6 +100,8 @@ pub look-spec : {M : Type 1} → statement M
 look-spec =
     tie.close
     (tie.spec
+    spoil-requires
+    spoil-requires-2
     read-requires
     enum-told
     enum-told-2
