@@ -1,7 +1,7 @@
 -- A plan laid as blocks: one block, one block after the other, and the trailer.
 use mathlib.Core.Path.{_≡_, sym, _∙_, ap}
 use mathlib.Core.List.{List, [], _∷_, _++_, append-assoc, append-nil}
-use Prim.Native.Nat.{ℕ, zero, suc, _+_, _-_, _*_, _/_, _%_, _≤_, min}
+use Prim.Native.Nat.{ℕ, zero, suc, _+_, _-_, _*_, _≤_, min}
 use native.Mathlib.Omega.{arith}
 use lib.ListN.{length, take, drop, set, replicate, length-append, length-take, length-drop, length-set, drop-of-length-le}
 use lib.Seq.{length-take-le, take-at, take-suc-set, drop-length, drop-at, drop-drop, sets, length-sets, sets-eq}
