@@ -128,7 +128,8 @@ uint64_t sholakpite_write(uint64_t policy, const uint64_t *list, size_t list_len
  * alone, and the longest plan takes 133,248 bytes with its trailer.
  *
  * Power may fail after any byte; what is left is the bytes written so far. Whichever byte that is, what is left reads as
- * before the append, until the last new byte is written; from then on it reads as the new plan.
+ * before the append, until the last new byte is written; from then on it reads as the new plan. So the new bytes have to
+ * reach the card in order, from the first to the last.
  */
 
 /*

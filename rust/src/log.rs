@@ -30,7 +30,7 @@ extern "C" {
 pub const BLOCK: usize = 64;
 const CARRIED: usize = BLOCK - 1;
 
-/// The entries that a part may have.
+/// The entries that a part may have at most.
 pub const LONGEST_PART: usize = 65_535;
 
 /// The words that the two lengths need.

@@ -143,10 +143,16 @@ fn a_row_of_two_words_is_needed_first() {
         let mut lengths = vec![1_000; words];
         let answered = read_words(&log_b(), &mut startup, &mut cycle, &mut lengths);
         assert_eq!(answered, code);
-        assert_eq!(startup == STARTUP, code == 0);
+        let (first, second) = if code == 0 {
+            (STARTUP, CYCLE)
+        } else {
+            ([99; 5], [99; 4])
+        };
+        assert_eq!((startup, cycle), (first, second));
         let expected: &[u64] = if code == 0 { &[5, 4, 1_000] } else { &[1_000] };
         assert_eq!(lengths, expected[..words]);
         let of_no_log = read_words(&[], &mut [], &mut [], &mut lengths);
         assert_eq!(of_no_log, if code == 0 { 20 } else { 4 });
+        assert_eq!(lengths, expected[..words]);
     }
 }

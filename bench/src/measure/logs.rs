@@ -5,7 +5,7 @@ use sholakpite::log::{LONGEST_PART, Read, append, needs, read};
 use std::hint::black_box;
 use std::time::Instant;
 
-/// Entries of each part: the longest, a half and a quarter of it.
+/// Entries of each part: a quarter of the longest, a half, and the longest.
 const PARTS: [usize; 3] = [LONGEST_PART / 4 + 1, LONGEST_PART / 2 + 1, LONGEST_PART];
 
 /// A copy takes little longer than the clock is read, so each is timed over so many calls.

@@ -4,18 +4,20 @@ use unpacking::Found;
 
 pub(crate) enum Seen {
     Nothing,
-    Refused,
+    Damaged,
+    Short,
     Before,
     Newest,
     Other,
 }
 
 pub(crate) struct Tally {
-    pub nothing: usize,
-    pub refused: usize,
-    pub before: usize,
-    pub newest: usize,
-    pub other: usize,
+    nothing: usize,
+    damaged: usize,
+    short: usize,
+    before: usize,
+    newest: usize,
+    other: usize,
 }
 
 // No run counts so far that it would wrap.
@@ -32,7 +34,8 @@ impl Tally {
     pub(crate) fn none() -> Tally {
         Tally {
             nothing: 0,
-            refused: 0,
+            damaged: 0,
+            short: 0,
             before: 0,
             newest: 0,
             other: 0,
@@ -42,7 +45,8 @@ impl Tally {
     pub(crate) fn with(mut self, seen: Seen) -> Tally {
         match seen {
             Seen::Nothing => self.nothing = more(self.nothing),
-            Seen::Refused => self.refused = more(self.refused),
+            Seen::Damaged => self.damaged = more(self.damaged),
+            Seen::Short => self.short = more(self.short),
             Seen::Before => self.before = more(self.before),
             Seen::Newest => self.newest = more(self.newest),
             Seen::Other => self.other = more(self.other),
@@ -52,7 +56,8 @@ impl Tally {
 
     pub(crate) fn print(self) {
         named(b": no plan ", self.nothing);
-        named(b", refused ", self.refused);
+        named(b", damaged ", self.damaged);
+        named(b", short ", self.short);
         named(b", the plan before ", self.before);
         named(b", the newest ", self.newest);
         named(b", another ", self.other);
@@ -87,21 +92,24 @@ fn which(s: &[u8], c: &[u8], startup: &[u8], cycle: &[u8]) -> Seen {
     Seen::Other
 }
 
-// No plan here begins with this entry.
+// No plan here has this entry among its first 64, and one that is longer is read once.
 fn spoil(buffer: &mut [u8]) {
-    if 0 < buffer.len() {
-        buffer[0] = 254;
+    for i in 0..buffer.len() {
+        if 64 <= i {
+            return;
+        }
+        buffer[i] = 254;
     }
 }
 
-// Reads a log by way of two buffers, in which nothing is left of an earlier plan, and tells which plan that is.
+// Reads a log by way of two buffers, in which nothing is left of what was read before, and tells which plan that is.
 pub(crate) fn look(log: &[u8], startup: &[u8], cycle: &[u8], s: &mut [u8], c: &mut [u8]) -> Seen {
     spoil(s);
     spoil(c);
     match log::read(log, s, c) {
         Found::Nothing => Seen::Nothing,
-        Found::Damaged => Seen::Refused,
-        Found::Short => Seen::Other,
+        Found::Damaged => Seen::Damaged,
+        Found::Short => Seen::Short,
         Found::Plan(m, n) => {
             if s.len() < m {
                 return Seen::Other;

@@ -39,7 +39,7 @@ kept-over : (log : List ℕ) (m n : ℕ) → ((i : ℕ) → i < n → eqb (getD 
 kept-over log m zero h = rw add-zero
 kept-over log m (suc n) h = rw (add-suc, h n (omega arith)) (kept-over log m n (λ i q. h i (omega arith)))
 
--- one block further back
+-- the last of n blocks is a trailer: all are kept
 pub kept-trailer : (log : List ℕ) (n : ℕ) → 0 < n → getD log (64 * (n - 1)) 0 ≡ 2 → blocksKept log n ≡ n
 kept-trailer log zero h e = absurd (omega arith)
 kept-trailer log (suc n) h e =
@@ -47,6 +47,7 @@ kept-trailer log (suc n) h e =
     let t : getD log (64 * n) 0 ≡ 2 = rw q at e in
     rw t
 
+-- it is none: one block further back
 pub kept-other : (log : List ℕ) (n : ℕ) → 0 < n → (getD log (64 * (n - 1)) 0 ≡ 2 → ⊥) → blocksKept log (n - 1) ≡ blocksKept log n
 kept-other log zero h e = absurd (omega arith)
 kept-other log (suc n) h e =
@@ -61,16 +62,19 @@ module _ (log : List ℕ) where
   pub kept-length : length (kept log) ≡ 64 * blocksKept log (wholeBlocks log)
   kept-length = length-take-le (64 * blocksKept log (wholeBlocks log)) log kept-fits
 
+pub kept-short : (log : List ℕ) → length (kept log) ≤ length log
+kept-short log = omega (arith, kept-length log, kept-fits log)
+
 -- what is kept of the first n bytes is no more than there is
 pub start-fits : (log : List ℕ) (n : ℕ) → length (kept (take n log)) ≤ length log
-start-fits log n = omega (arith, kept-length (take n log), kept-fits (take n log), length-take n log)
+start-fits log n = omega (arith, kept-short (take n log), length-take n log)
 
 -- it is a front of the log
 pub kept-is-front : (log : List ℕ) (n : ℕ) → n ≡ length (kept log) → take n log ≡ kept log
 kept-is-front log n e = ap (λ (k : ℕ). take k log) (e ∙ kept-length log)
 
-pub kept-front : (log : List ℕ) (n : ℕ) → take (length (kept (take n log))) log ≡ kept (take n log)
-kept-front log n =
+pub start-front : (log : List ℕ) (n : ℕ) → take (length (kept (take n log))) log ≡ kept (take n log)
+start-front log n =
     ap (λ (k : ℕ). take k log) (kept-length (take n log))
     ∙ sym (take-take (64 * blocksKept (take n log) (wholeBlocks (take n log))) n log (omega (arith, kept-fits (take n log), length-take n log)))
 

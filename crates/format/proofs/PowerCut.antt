@@ -67,12 +67,15 @@ module _ (startup cycle : List ℕ) where
         omega (arith, length-append start blocks, blocks-length count (startup ++ cycle), two-bytes count) in
         rw n (drop-at start blocks (length start) refl)
 
-    carries : entries (start ++ blocks) last ≡ startup ++ cycle ++ replicate (63 * count - length (startup ++ cycle)) 0
+    abbrev pads : List ℕ
+    pads = replicate (63 * count - length (startup ++ cycle)) 0
+
+    carries : entries (start ++ blocks) last ≡ startup ++ cycle ++ pads
     carries =
         ap (λ (n : ℕ). carried n (covered (start ++ blocks) last)) (two-bytes count)
         ∙ ap (carried count) (covers ∙ sym (append-nil blocks))
         ∙ blocks-carried count (startup ++ cycle) []
-        ∙ ap (λ (l : List ℕ). l ++ replicate (63 * count - length (startup ++ cycle)) 0)
+        ∙ ap (λ (l : List ℕ). l ++ pads)
         (take-all (63 * count) (startup ++ cycle) (omega (arith, length-append startup cycle)))
 
     right-count : wrongCount last ≡ false
@@ -91,12 +94,9 @@ module _ (startup cycle : List ℕ) where
     zero-pads : nonzeroPad (start ++ blocks) last ≡ false
     zero-pads = ap (λ (l : List ℕ). not (allZero l))
         (ap (drop (entriesLength last)) carries
-        ∙ drop-at (startup ++ cycle) (replicate (63 * count - length (startup ++ cycle)) 0) (entriesLength last)
+        ∙ drop-at (startup ++ cycle) pads (entriesLength last)
         (omega (arith, length-append startup cycle, two-bytes (length startup), two-bytes (length cycle))))
         ∙ ap not (zeros-zero (63 * count - length (startup ++ cycle)))
-
-    abbrev pads : List ℕ
-    pads = replicate (63 * count - length (startup ++ cycle)) 0
 
     carries-parts : entries (start ++ blocks) last ≡ startup ++ (cycle ++ pads)
     carries-parts = carries ∙ append-assoc startup cycle pads

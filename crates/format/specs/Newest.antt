@@ -88,7 +88,7 @@ module _ (before trailer : List ℕ) where
   planBefore =
       cond isDamaged damaged (plan (take (startupLength trailer) entries) (take (cycleLength trailer) (drop (startupLength trailer) entries)))
 
--- of a log that has been cut back: its last block is the trailer
+-- of a log that has been cut back: its last block is the trailer. Nothing is meant by it for another log
 abbrev pub newestOf : List ℕ → Newest
 newestOf log = cond (ltb (length log) blockLength) none (planBefore (take (length log - blockLength) log) (drop (length log - blockLength) log))
 

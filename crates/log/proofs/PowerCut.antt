@@ -11,7 +11,7 @@ use lib.Seq.{take-append-le, take-append-add, take-at}
 use borrow.Author.Tests.{ltb-false}
 use Rattle.format.specs.Blocks.{planBytes}
 use Rattle.format.specs.Newest.{plan, kept, newestOf, newest}
-use Rattle.format.proofs.CutBack.{kept-length, kept-front, start-fits}
+use Rattle.format.proofs.CutBack.{kept-length, start-front, start-fits}
 use Rattle.format.proofs.Either.{or-none}
 use Rattle.format.proofs.PowerCut.{bytes-length, kept-torn-plan, newest-plan}
 use Rattle.packing.specs.declared.Appended.the-variants.{Used}
@@ -39,7 +39,7 @@ module _ (log : List ℕ) (used : ℕ) (startup cycle : List ℕ) (n : ℕ) (aft
 
     is-left : after ≡ front ++ bytes ++ drop (end log (start log used) startup cycle) log
     is-left =
-        x .log-left ∙ ap (λ (l : List ℕ). l ++ bytes ++ drop (end log (start log used) startup cycle) log) (kept-front log used)
+        x .log-left ∙ ap (λ (l : List ℕ). l ++ bytes ++ drop (end log (start log used) startup cycle) log) (start-front log used)
 
     is-end : n ≡ length front + length bytes
     is-end = cc (x .is-used)
@@ -81,7 +81,7 @@ used-blocks log used startup cycle n after h =
     let x = is-appended log used startup cycle n after h in
     omega (arith, is-end log used startup cycle n after (x .0) (x .1), kept-length (take used log), bytes-length startup cycle)
 
-pub appended-newest : (log : List ℕ) (used : ℕ) (startup cycle : List ℕ) (n : ℕ) (after : List ℕ)
+appended-newest : (log : List ℕ) (used : ℕ) (startup cycle : List ℕ) (n : ℕ) (after : List ℕ)
     → AppendedAs log used startup cycle (Used n) after → newest (take n after) ≡ plan startup cycle
 appended-newest log used startup cycle n after h =
     let x = is-appended log used startup cycle n after h in

@@ -8,8 +8,7 @@ use Rattle.packing.specs.declared.Appended.the-variants.{Used}
 use Rattle.packing.specs.Packing.{unfit}
 use Rattle.log.specs.Log.{start, AppendedAs}
 
--- of n bytes that the log has once a plan is appended the first j are there: the new ones are written in order, from where the log
--- was cut back to, and the last is missing
+-- the power failed when the first j bytes were there: the log was cut back, the new bytes are written in order, and the last of the n is missing
 pub record IsTorn (log : List ℕ) (used n j : ℕ) : Type 0 where
   pub begun : start log used ≤ j
   pub not-whole : j < n
@@ -23,7 +22,8 @@ pub record NothingLost (log : List ℕ) (used : ℕ) (startup cycle : List ℕ) 
   -- what is left takes the plans that the log took before
   pub room : (j : ℕ) → IsTorn log used n j → (s c : List ℕ) → unfit after (start after j) s c ≡ unfit log (start log used) s c
   -- and one that is appended to it is the newest then
-  pub again : (j : ℕ) → IsTorn log used n j → (s c : List ℕ) (m : ℕ) (left : List ℕ) → AppendedAs after j s c (Used m) left → newest (take m left) ≡ plan s c
+  pub again : (j : ℕ) → IsTorn log used n j → (s c : List ℕ) (m : ℕ) (left : List ℕ)
+      → AppendedAs after j s c (Used m) left → newest (take m left) ≡ plan s c
 
 -- whatever was in the log, whatever plan was appended and whatever byte the power failed after
 abbrev pub Survives : Type 0

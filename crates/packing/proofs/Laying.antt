@@ -87,14 +87,14 @@ blocks-snoc (suc n) entries =
 
 module _ (entries out : List ℕ) where
   -- the first n blocks are laid
-  abbrev pub Laid : ℕ → List ℕ
-  Laid n = planBlocks n entries ++ drop (64 * n) out
+  abbrev pub LaidBlocks : ℕ → List ℕ
+  LaidBlocks n = planBlocks n entries ++ drop (64 * n) out
 
-  pub laid-length : (n : ℕ) → 64 * n ≤ length out → length (Laid n) ≡ length out
+  pub laid-length : (n : ℕ) → 64 * n ≤ length out → length (LaidBlocks n) ≡ length out
   laid-length n h = length-append (planBlocks n entries) (drop (64 * n) out) ∙ omega (arith, blocks-length n entries, length-drop (64 * n) out)
 
-  pub laid-more : (n : ℕ) (now block : List ℕ) → now ≡ Laid n → block ≡ 1 ∷ padded 63 (drop (63 * n) entries)
-      → take (64 * n) now ++ (block ++ drop (64 * n + 64 - 64 * n) (drop (64 * n) now)) ≡ Laid (n + 1)
+  pub laid-more : (n : ℕ) (now block : List ℕ) → now ≡ LaidBlocks n → block ≡ 1 ∷ padded 63 (drop (63 * n) entries)
+      → take (64 * n) now ++ (block ++ drop (64 * n + 64 - 64 * n) (drop (64 * n) now)) ≡ LaidBlocks (n + 1)
   laid-more n now block e b =
       let w : 64 * n + 64 - 64 * n ≡ 64 = omega arith in
       let s : n + 1 ≡ suc n = omega arith in
@@ -112,7 +112,7 @@ module _ (entries out : List ℕ) where
       (sym (append-assoc (planBlocks n entries) (1 ∷ padded 63 (drop (63 * n) entries)) (drop (64 * suc n) out))
       ∙ ap (λ (l : List ℕ). l ++ drop (64 * suc n) out) (sym (blocks-snoc n entries)))
 
-  pub laid-all : (n : ℕ) → 64 * n ≡ length out → Laid n ≡ planBlocks n entries
+  pub laid-all : (n : ℕ) → 64 * n ≡ length out → LaidBlocks n ≡ planBlocks n entries
   laid-all n e = rw (drop-of-length-le out {i = 64 * n} (omega arith)) (append-nil (planBlocks n entries))
 
 -- the trailer: its kind, its three numbers, and zeros after them

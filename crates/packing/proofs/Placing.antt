@@ -15,17 +15,17 @@ use Rattle.packing.specs.declared.Appended.the-variants.{Used, Refused}
 use Rattle.packing.specs.Packing.{bytes, unfit, end, PackedAt}
 
 module _ (log : List ℕ) (place : ℕ) (startup cycle : List ℕ) where
-  abbrev tooLong : Bool
-  tooLong = ltb (length log - place) (length (planBytes startup cycle))
+  abbrev noRoom : Bool
+  noRoom = ltb (length log - place) (length (planBytes startup cycle))
 
   refused : unfit log place startup cycle ≡ true → PackedAt log place startup cycle Refused log
   refused e = rw e (record { is-number = refl; unchanged = refl })
 
   pub refused-startup : 65535 < length startup → PackedAt log place startup cycle Refused log
-  refused-startup h = refused (rw (lt-ltb 65535 (length startup) h, or-true tooLong))
+  refused-startup h = refused (rw (lt-ltb 65535 (length startup) h, or-true noRoom))
 
   pub refused-cycle : 65535 < length cycle → PackedAt log place startup cycle Refused log
-  refused-cycle h = refused (rw (lt-ltb 65535 (length cycle) h) (or-true (tooLong || ltb 65535 (length startup))))
+  refused-cycle h = refused (rw (lt-ltb 65535 (length cycle) h) (or-true (noRoom || ltb 65535 (length startup))))
 
   refused-log : length log - place < length (planBytes startup cycle) → PackedAt log place startup cycle Refused log
   refused-log h = refused (rw (lt-ltb (length log - place) (length (planBytes startup cycle)) h))

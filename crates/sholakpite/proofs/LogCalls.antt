@@ -36,7 +36,7 @@ two-words words a b h = sets-eq (a ∷ b ∷ []) words 0 (omega arith)
 module _ (log startup cycle words : List ℕ) where
   pub read-not-understood : length words < 2 → AnsweredRead log startup cycle words 4 startup cycle words
   read-not-understood h =
-      rw (lt-ltb (length words) 2 h) (record { is-code = refl; startup-kept = refl; cycle-kept = refl; words-kept = refl })
+      rw (lt-ltb (length words) 2 h) (record { is-code = refl; startup-unchanged = refl; cycle-unchanged = refl; words-unchanged = refl })
 
   module _ (room : 2 ≤ length words) (r : Found) (s c : List ℕ) (read : ReadAs log startup cycle r s c) where
     read-understood : (n : ℕ) (w : List ℕ) → n ≡ readCode (unpacking.reply r)
@@ -58,7 +58,7 @@ module _ (log startup cycle words : List ℕ) where
       go : (b : Bool) → cond b (NotUnderstood log startup cycle words n s c w) (Understood log startup cycle words n s c w)
           → cond b (NotUnderstood log startup cycle words n′ s′ c′ w′) (Understood log startup cycle words n′ s′ c′ w′)
           → (n ≡ n′) × (s ≡ s′) × (c ≡ c′) × (w ≡ w′)
-      go true x y = (x .is-code ∙ sym (y .is-code), x .startup-kept ∙ sym (y .startup-kept), x .cycle-kept ∙ sym (y .cycle-kept), x .words-kept ∙ sym (y .words-kept))
+      go true x y = (x .is-code ∙ sym (y .is-code), x .startup-unchanged ∙ sym (y .startup-unchanged), x .cycle-unchanged ∙ sym (y .cycle-unchanged), x .words-unchanged ∙ sym (y .words-unchanged))
       go false x y =
           let e = read-pinned log startup cycle (x .answer) (y .answer) s s′ c c′ (x .read-as) (y .read-as) in
           let f : unpacking.reply (x .answer) ≡ unpacking.reply (y .answer) = ap unpacking.reply (e .0) in (

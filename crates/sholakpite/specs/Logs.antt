@@ -11,7 +11,7 @@ use Rattle.unpacking.specs.declared.Found.{Found}
 use Rattle.unpacking.specs.Unpacking as unpacking
 use Rattle.log.specs.Log.{AppendedAs, ReadAs}
 
--- how many bytes are used then, or the request's number: after an append that is never the number of bytes (`never-23`)
+-- how many bytes are used then, a multiple of 64, or 23
 abbrev pub appendCode : packing.Reply → ℕ
 appendCode (packing.bytes n) = n
 appendCode (packing.number n) = n
@@ -36,9 +36,9 @@ pub record AnsweredAppend (log : List ℕ) (used : ℕ) (startup cycle : List �
 module _ (log startup cycle words : List ℕ) (n : ℕ) (s c w : List ℕ) where
   pub record NotUnderstood : Type 0 where
     pub is-code : n ≡ 4
-    pub startup-kept : s ≡ startup
-    pub cycle-kept : c ≡ cycle
-    pub words-kept : w ≡ words
+    pub startup-unchanged : s ≡ startup
+    pub cycle-unchanged : c ≡ cycle
+    pub words-unchanged : w ≡ words
 
   pub record Understood : Type 0 where
     pub answer : Found

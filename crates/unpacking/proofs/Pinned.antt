@@ -25,7 +25,7 @@ one-answer : (r r′ : Found) → reply r ≡ reply r′ → r ≡ r′
 one-answer r r′ e = sym (answer-back r) ∙ ap answer e ∙ answer-back r′
 
 module _ (startup cycle : List ℕ) (r r′ : Found) (s s′ c c′ : List ℕ) where
-  abbrev pub Same : Type 0
+  abbrev Same : Type 0
   Same = (r ≡ r′) × (s ≡ s′) × (c ≡ c′)
 
   same-number : (n : ℕ) → IsNumber startup cycle r s c n → IsNumber startup cycle r′ s′ c′ n → Same

@@ -10,7 +10,7 @@ use Rattle.format.specs.Newest.{carried}
 use Rattle.copying.proofs.Copying.{take-least}
 
 -- what the first block carries
-pub first-length : (blocks : List ℕ) → 64 ≤ length blocks → length (take 63 (drop 1 blocks)) ≡ 63
+first-length : (blocks : List ℕ) → 64 ≤ length blocks → length (take 63 (drop 1 blocks)) ≡ 63
 first-length blocks h = length-take-le 63 (drop 1 blocks) (omega (arith, length-drop 1 blocks))
 
 pub carried-length : (count : ℕ) (blocks : List ℕ) → 64 * count ≤ length blocks → length (carried count blocks) ≡ 63 * count

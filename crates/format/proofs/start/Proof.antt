@@ -8,9 +8,7 @@ use Rattle.format.proofs.start.Statement.{statement}
 use Rattle.format.proofs.start.Tie as tie
 
 slice-aggregate-kept : tie.Need-slice-aggregate-kept
-slice-aggregate-kept c =
-    let x = c .before .before .before .args in
-    sym (length-take-le (x .used) (x .log .now) (omega arith))
+slice-aggregate-kept c = sym (length-take-le _ _ (omega arith))
 
 kept-requires : tie.Need-kept-requires
 kept-requires c κs = search needs

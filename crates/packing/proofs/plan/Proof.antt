@@ -60,7 +60,8 @@ returns-5 c =
     let n = i .before in
     let e = n .before .before in
     let x = e .before .before .before .before .before .args in
-    placed (x .log .now) (x .at) (x .startup .now) (x .cycle .now) (n .length .result) (n .length .ensures) (e .before .if1 .left) (e .if2 .left) (i .if4 .left) (w .whole .last .0) (w .whole .ensures)
+    placed (x .log .now) (x .at) (x .startup .now) (x .cycle .now) (n .length .result) (n .length .ensures)
+    (e .before .if1 .left) (e .if2 .left) (i .if4 .left) (w .whole .last .0) (w .whole .ensures)
 
 pub plan-spec : {M : Type 1} → statement M
 plan-spec =

@@ -93,8 +93,9 @@ entries-requires-2 c κs =
     let a = b .before in
     let s = a .before .before .before .before .before in
     let x = s .args in
-    asks-cycle (x .startup .now) (x .cycle .now) (x .before .now) (x .trailer .now) (s .pre .1) (a .number .result) (b .number2 .result) (t .number3 .result)
-    (a .number .ensures .0) (b .number2 .ensures .0) (t .number3 .ensures .0)
+    let asks = asks-cycle (x .startup .now) (x .cycle .now) (x .before .now) (x .trailer .now) (s .pre .1) (a .number .result) (b .number2 .result) (t .number3 .result)
+    (a .number .ensures .0) (b .number2 .ensures .0) (t .number3 .ensures .0) in
+    (asks .0, omega (arith, asks .1))
 
 same-length : tie.Need-same-length
 same-length c = search needs

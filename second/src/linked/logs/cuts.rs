@@ -86,7 +86,7 @@ fn cut_all(
     }
     tried.cuts += bytes as u64;
     lines.extend(read_left(log.part(), &newest, random));
-    lines.extend(lose_front(&log, random));
+    lines.extend(lose_front(&log, &earlier, &newest, random));
     if log.buffer != whole {
         lines.push("reading has changed the log".to_string());
     }
@@ -135,9 +135,16 @@ fn append_after(log: &Log, cut: usize, random: &mut Random) -> Vec<String> {
 
 /// The log without its first block. Where there is an earlier plan, the newest one is untouched. Where there is none,
 /// it points before the start, and the lost block stands right before what is lent; a trailer alone leaves nothing.
-fn lose_front(log: &Log, random: &mut Random) -> Vec<String> {
-    let left = &log.part()[BLOCK..];
-    let lines = read_left(left, &find(left), random);
+fn lose_front(log: &Log, earlier: &Found, newest: &Found, random: &mut Random) -> Vec<String> {
+    let expected = match (earlier, newest.lengths()) {
+        (Found::Newest(_), _) => newest.clone(),
+        (_, Some([startup, cycle])) if startup + cycle > 0 => {
+            let before_the_start = [false, true, false, false, false];
+            Found::Damaged(before_the_start, [startup, cycle])
+        }
+        _ => Found::NoPlan,
+    };
+    let lines = read_left(&log.part()[BLOCK..], &expected, random);
     let told = |line| format!("without the first block: {line}");
     lines.iter().map(told).collect()
 }

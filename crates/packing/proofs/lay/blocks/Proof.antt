@@ -7,12 +7,12 @@ use lib.ListN.{length}
 use borrow.Author.Needs.{needs}
 use Rattle.format.specs.Blocks.{planBlocks}
 use Rattle.format.proofs.Lists.{part-length}
-use Rattle.packing.proofs.Laying.{Laid, laid-length, laid-more, laid-all}
+use Rattle.packing.proofs.Laying.{LaidBlocks, laid-length, laid-more, laid-all}
 use Rattle.packing.proofs.lay.blocks.Statement.{statement}
 use Rattle.packing.proofs.lay.blocks.Tie as tie
 
 abbrev Inv-loop : tie.InvT-loop
-Inv-loop out₀ startup cycle count i₀ out i = (i ≤ count) × (out ≡ Laid (startup ++ cycle) out₀ i)
+Inv-loop out₀ startup cycle count i₀ out i = (i ≤ count) × (out ≡ LaidBlocks (startup ++ cycle) out₀ i)
 
 abbrev μ-loop : tie.MeasureT-loop
 μ-loop out₀ startup cycle count i₀ out i = count - i

@@ -46,7 +46,8 @@ returns-2 c =
     let r = c .before .before .before .before .before .before .before in
     let i = r .before .before .before in
     let x = i .before .before .before .before .before .args in
-    read-plan (x .log .now) (x .startup .now) (x .cycle .now) (x .lengths .now) (i .if1 .left) (r .read .result) (r .read .last .1 .0) (r .read .last .1 .1 .0) (r .read .ensures) (c .before .s .given .0 .0) (c .before .s .given .0 .1 .0) (c .before .s .given .1)
+    read-plan (x .log .now) (x .startup .now) (x .cycle .now) (x .lengths .now)
+    (i .if1 .left) (r .read .result) (r .read .last .1 .0) (r .read .last .1 .1 .0) (r .read .ensures) (c .before .s .given .0 .0) (c .before .s .given .0 .1 .0) (c .before .s .given .1)
 
 same-length-4 : tie.Need-same-length-4
 same-length-4 c = search needs
@@ -59,7 +60,8 @@ returns-3 c =
     let r = c .before .before .before .before .before .before in
     let i = r .before .before .before in
     let x = i .before .before .before .before .before .args in
-    read-number (x .log .now) (x .startup .now) (x .cycle .now) (x .lengths .now) (i .if1 .left) (r .read .result) (r .read .last .1 .0) (r .read .last .1 .1 .0) (r .read .ensures) 20 (ap reply (c .enum-told .given .1))
+    read-number (x .log .now) (x .startup .now) (x .cycle .now) (x .lengths .now)
+    (i .if1 .left) (r .read .result) (r .read .last .1 .0) (r .read .last .1 .1 .0) (r .read .ensures) 20 (ap reply (c .enum-told .given .1))
 
 same-length-6 : tie.Need-same-length-6
 same-length-6 c = search needs
@@ -72,7 +74,8 @@ returns-4 c =
     let r = c .before .before .before .before .before .before in
     let i = r .before .before .before in
     let x = i .before .before .before .before .before .args in
-    read-number (x .log .now) (x .startup .now) (x .cycle .now) (x .lengths .now) (i .if1 .left) (r .read .result) (r .read .last .1 .0) (r .read .last .1 .1 .0) (r .read .ensures) 21 (ap reply (c .enum-told2 .given .1))
+    read-number (x .log .now) (x .startup .now) (x .cycle .now) (x .lengths .now)
+    (i .if1 .left) (r .read .result) (r .read .last .1 .0) (r .read .last .1 .1 .0) (r .read .ensures) 21 (ap reply (c .enum-told2 .given .1))
 
 same-length-8 : tie.Need-same-length-8
 same-length-8 c = search needs
@@ -85,7 +88,8 @@ returns-5 c =
     let r = c .before .before .before .before .before .before in
     let i = r .before .before .before in
     let x = i .before .before .before .before .before .args in
-    read-number (x .log .now) (x .startup .now) (x .cycle .now) (x .lengths .now) (i .if1 .left) (r .read .result) (r .read .last .1 .0) (r .read .last .1 .1 .0) (r .read .ensures) 22 (ap reply (c .enum-told3 .given .1))
+    read-number (x .log .now) (x .startup .now) (x .cycle .now) (x .lengths .now)
+    (i .if1 .left) (r .read .result) (r .read .last .1 .0) (r .read .last .1 .1 .0) (r .read .ensures) 22 (ap reply (c .enum-told3 .given .1))
 
 pub sholakpite-read-spec : {M : Type 1} → statement M
 sholakpite-read-spec =
