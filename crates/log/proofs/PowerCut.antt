@@ -37,9 +37,12 @@ module _ (log : List ℕ) (used : ℕ) (startup cycle : List ℕ) (n : ℕ) (aft
     abbrev bytes : List ℕ
     bytes = planBytes startup cycle
 
+    front-is : take (start log used) log ≡ front
+    front-is = start-front log used
+
     is-left : after ≡ front ++ bytes ++ drop (end log (start log used) startup cycle) log
     is-left =
-        x .log-left ∙ ap (λ (l : List ℕ). l ++ bytes ++ drop (end log (start log used) startup cycle) log) (start-front log used)
+        x .log-left ∙ ap (λ (l : List ℕ). l ++ bytes ++ drop (end log (start log used) startup cycle) log) front-is
 
     is-end : n ≡ length front + length bytes
     is-end = cc (x .is-used)

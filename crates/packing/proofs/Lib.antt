@@ -1,3 +1,5 @@
-pub mod Laying
+pub mod OneBlock
+pub mod BlockRow
+pub mod Ending
 pub mod Placing
 pub mod Pinned

@@ -9,6 +9,7 @@ use Rattle.packing.specs.declared.Appended.{Appended}
 use Rattle.packing.specs.Packing as packing
 use Rattle.unpacking.specs.declared.Found.{Found}
 use Rattle.unpacking.specs.Unpacking as unpacking
+use Rattle.words.specs.Words.{notUnderstood}
 use Rattle.log.specs.Log.{AppendedAs, ReadAs}
 
 -- how many bytes are used then, a multiple of 64, or 23
@@ -26,6 +27,9 @@ abbrev pub lengthWords : unpacking.Reply → List ℕ
 lengthWords (unpacking.lengths a b) = a ∷ b ∷ []
 lengthWords (unpacking.number n) = []
 
+abbrev pub lengthCount : ℕ
+lengthCount = 2
+
 -- `log` is the buffer as it was lent, `left` as it is left, n what is answered
 pub record AnsweredAppend (log : List ℕ) (used : ℕ) (startup cycle : List ℕ) (n : ℕ) (left : List ℕ) : Type 0 where
   pub answer : Appended
@@ -35,7 +39,7 @@ pub record AnsweredAppend (log : List ℕ) (used : ℕ) (startup cycle : List �
 -- `startup`, `cycle` and `words` are the buffers as they were lent, s, c and w as they are left
 module _ (log startup cycle words : List ℕ) (n : ℕ) (s c w : List ℕ) where
   pub record NotUnderstood : Type 0 where
-    pub is-code : n ≡ 4
+    pub is-code : n ≡ notUnderstood
     pub startup-unchanged : s ≡ startup
     pub cycle-unchanged : c ≡ cycle
     pub words-unchanged : w ≡ words
@@ -48,4 +52,4 @@ module _ (log startup cycle words : List ℕ) (n : ℕ) (s c w : List ℕ) where
 
   -- 4 exactly when there is no room for two lengths
   abbrev pub AnsweredRead : Type 0
-  AnsweredRead = cond (ltb (length words) 2) NotUnderstood Understood
+  AnsweredRead = cond (ltb (length words) lengthCount) NotUnderstood Understood

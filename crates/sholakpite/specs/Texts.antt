@@ -10,7 +10,7 @@ use Rattle.text.specs.Reading.{reading}
 use Rattle.writer.specs.declared.Saved.{Saved}
 use Rattle.writer.specs.Writing.{SavedAs, savedNumber}
 use Rattle.output.specs.Output.{Printed}
-use Rattle.words.specs.Words.{policyOf, tasksOf, lastPolicy, ragged}
+use Rattle.words.specs.Words.{policyOf, tasksOf, lastPolicy, ragged, notUnderstood}
 
 -- the output's length, or 0 for a buffer that is shorter: no output is empty (`output-full`)
 abbrev pub lengthOf : Written → ℕ
@@ -26,7 +26,7 @@ pub record AnsweredText (input buffer : List ℕ) (n : ℕ) (left : List ℕ) : 
 module _ (policy : ℕ) (list buffer : List ℕ) where
   -- 4: the policy is above 3, or the words are not a multiple of four
   pub record NotUnderstood (n : ℕ) (left : List ℕ) : Type 0 where
-    pub is-code : n ≡ 4
+    pub is-code : n ≡ notUnderstood
     pub kept : left ≡ buffer
 
   pub record Understood (n : ℕ) (left : List ℕ) : Type 0 where

@@ -65,10 +65,14 @@ taskWords = 4
 abbrev pub ragged : List ℕ → Bool
 ragged list = not (eqb (length list % taskWords) 0)
 
+-- what is answered for a call that is not understood
+abbrev pub notUnderstood : ℕ
+notUnderstood = 4
+
 -- `startup`, `cycle` and `words` are the buffers as they were lent, s, c and w as they are left
 module _ (policy : ℕ) (l : List Task) (startup cycle words : List ℕ) where
   pub record NotUnderstood (n : ℕ) (s c w : List ℕ) : Type 0 where
-    pub is-code : n ≡ 4
+    pub is-code : n ≡ notUnderstood
     pub tables : Unchanged startup cycle s c
     pub words-kept : w ≡ words
 

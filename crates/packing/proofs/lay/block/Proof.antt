@@ -5,7 +5,7 @@ use native.Mathlib.Omega.{arith}
 use lib.ListN.{length, drop}
 use borrow.Author.Needs.{needs}
 use Rattle.format.proofs.Carried.{padded-length}
-use Rattle.packing.proofs.Laying.{block-laid}
+use Rattle.packing.proofs.OneBlock.{block-laid}
 use Rattle.packing.proofs.lay.block.Statement.{statement}
 use Rattle.packing.proofs.lay.block.Tie as tie
 

@@ -7,7 +7,7 @@ use lib.ListN.{length}
 use borrow.Author.Needs.{needs}
 use Rattle.format.specs.Blocks.{planBlocks}
 use Rattle.format.proofs.Lists.{part-length}
-use Rattle.packing.proofs.Laying.{LaidBlocks, laid-length, laid-more, laid-all}
+use Rattle.packing.proofs.BlockRow.{LaidBlocks, laid-length, laid-more, laid-all}
 use Rattle.packing.proofs.lay.blocks.Statement.{statement}
 use Rattle.packing.proofs.lay.blocks.Tie as tie
 

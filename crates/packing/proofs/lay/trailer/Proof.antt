@@ -5,7 +5,7 @@ use lib.ListN.{length, set, length-set}
 use lib.Seq.{length-sets}
 use borrow.Author.Needs.{needs}
 use Rattle.format.specs.Blocks.{twoBytes}
-use Rattle.packing.proofs.Laying.{trailer-laid}
+use Rattle.packing.proofs.Ending.{trailer-laid}
 use Rattle.packing.proofs.lay.trailer.Statement.{statement}
 use Rattle.packing.proofs.lay.trailer.Tie as tie
 

@@ -8,7 +8,7 @@ use lib.Seq.{length-take-le}
 use borrow.Author.Needs.{needs}
 use Rattle.format.specs.Blocks.{planBlocks, trailer}
 use Rattle.format.proofs.Carried.{blocks-length}
-use Rattle.packing.proofs.Laying.{laid-both}
+use Rattle.packing.proofs.Ending.{laid-both}
 use Rattle.packing.proofs.lay.whole.Statement.{statement}
 use Rattle.packing.proofs.lay.whole.Tie as tie
 
