@@ -23,6 +23,10 @@ extern "C" {
 #define SHOLAKPITE_DEADLINE_MONOTONIC 2
 #define SHOLAKPITE_EARLIEST_DEADLINE_FIRST 3
 
+/* The card that a list is for. A wide card's timer has every period that a task may have, a small card's only twenty. */
+#define SHOLAKPITE_WIDE 0
+#define SHOLAKPITE_SMALL 1
+
 /* What is answered, and the words of `row` that are then written, from row[0] on. */
 #define SHOLAKPITE_FEASIBLE 0   /* M, H, L, idle startup, idle cycle, preemptions startup, preemptions cycle */
 #define SHOLAKPITE_MISSED 1     /* task, instant */
@@ -43,7 +47,7 @@ struct sholakpite_task {
 };
 
 /*
- * Checks a list under a policy.
+ * Checks a list for a wide card under a policy.
  *
  * list     O C D T for each task: offset, run time, deadline, period; list_len counts words. It is only read.
  * startup  needs M + H entries, where M is the largest offset and H the least common multiple of the periods: 32,768 are
@@ -54,9 +58,11 @@ struct sholakpite_task {
  * for ever. Missed: the first miss is at an instant d. startup has the slots below d and below M + H, and cycle those
  * from M + H to d - 1. Entries that are not named keep their bytes; where a list is overloaded or refused, all do.
  *
- * Refused, by the first number that applies, task by task from 2 to 5:
+ * Refused, by the first line that applies; the five lines from 2 to 5 are gone through task by task:
  *   1, task 0   no task, or more than 16
  *   2, task i   T is 0 or above 16,384
+ *   9, task i   the card is small (see sholakpite_check_card), and T is none of 1, 2, 3, 4, 5, 6, 8, 10, 12, 15, 16, 20, 24,
+ *               30, 40, 48, 60, 80, 120, 240
  *   3, task i   C is 0 or above D
  *   4, task i   D is above T
  *   5, task i   O is above 16,384
@@ -77,6 +83,14 @@ uint64_t sholakpite_check(uint64_t policy, const uint64_t *list, size_t list_len
 uint64_t sholakpite_check_tasks(uint64_t policy, const struct sholakpite_task *list, size_t list_len, uint8_t *startup,
                                 size_t startup_len, uint8_t *cycle, size_t cycle_len, uint64_t *row, size_t row_len);
 
+/* The same two for a list that names its card, of which the number stands in front; a card above 1 is not understood
+   either. For a wide card they answer as those above. */
+uint64_t sholakpite_check_card(uint64_t card, uint64_t policy, const uint64_t *list, size_t list_len, uint8_t *startup,
+                               size_t startup_len, uint8_t *cycle, size_t cycle_len, uint64_t *row, size_t row_len);
+uint64_t sholakpite_check_tasks_card(uint64_t card, uint64_t policy, const struct sholakpite_task *list, size_t list_len,
+                                     uint8_t *startup, size_t startup_len, uint8_t *cycle, size_t cycle_len, uint64_t *row,
+                                     size_t row_len);
+
 /* The longest input that is read, and the longest output that there is. */
 #define SHOLAKPITE_LONGEST_INPUT 4096
 #define SHOLAKPITE_LONGEST_OUTPUT 147547
@@ -91,11 +105,12 @@ uint64_t sholakpite_check_tasks(uint64_t policy, const struct sholakpite_task *l
  */
 uint64_t sholakpite_answer(const uint8_t *input, size_t input_len, uint8_t *out, size_t out_len);
 
-/* What sholakpite_write answers for a list that has no text, or none that fits. No text has this length. */
+/* What the writer answers for a list that has no text, or none that fits. No text has this length. */
 #define SHOLAKPITE_NOT_WRITTEN 13
 
 /*
- * The text of a policy and a list of words, O C D T for each task; reading it gives the same policy and list.
+ * The text of a policy and a list of words for a wide card, O C D T for each task; reading it gives the same card, policy
+ * and list.
  *
  * Answers the text's length, with the text in out and later bytes as they were; or 13, with nothing written, exactly when
  * there are more than 16 tasks, a number is above 999,999 or out is shorter than the text:
@@ -103,6 +118,11 @@ uint64_t sholakpite_answer(const uint8_t *input, size_t input_len, uint8_t *out,
  * above 3 or list_len is not a multiple of 4. Pointers and regions as above.
  */
 uint64_t sholakpite_write(uint64_t policy, const uint64_t *list, size_t list_len, uint8_t *out, size_t out_len);
+
+/* The same for a list that names its card: where it is small, a line `card small` stands behind the policy's. 4 also where
+   the card is above 1. A period that the card does not have is written all the same; the checker refuses it. */
+uint64_t sholakpite_write_card(uint64_t card, uint64_t policy, const uint64_t *list, size_t list_len, uint8_t *out,
+                               size_t out_len);
 
 /* The bytes of a block of a log, and the entries that a part of a plan may have in it. */
 #define SHOLAKPITE_BLOCK 64

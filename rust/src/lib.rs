@@ -1,38 +1,16 @@
 //! Whether a list of periodic tasks ever misses a deadline on one core, and its slot tables.
 //!
-//! A safe wrapper over functions that are written in Rattle and proved. Their declarations below are not proved: they are
+//! A safe wrapper over functions that are written in Rattle and proved. Their declarations here are not proved: they are
 //! assumed to match, as include/sholakpite.h is.
 
 pub mod log;
 mod text;
+mod words;
 
-pub use text::{answer, write, write_words, LONGEST_INPUT, LONGEST_OUTPUT};
-
-extern "C" {
-    fn sholakpite_check(
-        policy: u64,
-        list: *const u64,
-        list_len: usize,
-        startup: *mut u8,
-        startup_len: usize,
-        cycle: *mut u8,
-        cycle_len: usize,
-        row: *mut u64,
-        row_len: usize,
-    ) -> u64;
-
-    fn sholakpite_check_tasks(
-        policy: u64,
-        list: *const Task,
-        list_len: usize,
-        startup: *mut u8,
-        startup_len: usize,
-        cycle: *mut u8,
-        cycle_len: usize,
-        row: *mut u64,
-        row_len: usize,
-    ) -> u64;
-}
+pub use text::{
+    answer, write, write_card, write_words, write_words_card, LONGEST_INPUT, LONGEST_OUTPUT,
+};
+pub use words::{check_tasks, check_tasks_card, check_words, check_words_card};
 
 /// A table entry of an idle slot; any other entry is a task number.
 pub const IDLE: u8 = 255;
@@ -48,6 +26,15 @@ pub struct Task {
     pub run: u64,
     pub deadline: u64,
     pub period: u64,
+}
+
+/// The card that a list is for, by the number that C calls it by.
+#[derive(Clone, Copy, Debug, PartialEq, Eq)]
+pub enum Card {
+    /// Its timer has every period that a task may have.
+    Wide = 0,
+    /// Its timer has the divisors of 240 and no other period.
+    Small = 1,
 }
 
 /// Who gets the slot, by the number that C calls it by. What is equal goes to the lower task number.
@@ -83,17 +70,37 @@ pub enum Answer {
     Missed { task: u64, instant: u64 },
     /// The tasks want more slots than there are. Neither table is written.
     Overloaded { load: u64, hyperperiod: u64 },
-    /// The list, or a buffer, is refused, and neither table is written: 1 no task or more than 16; 2 the period is 0 or
-    /// above 16,384; 3 the run time is 0 or above the deadline; 4 the deadline is above the period; 5 the offset is above
-    /// 16,384; 6 the hyperperiod is above 16,384; 7 `startup` is shorter than M + H; 8 `cycle` is shorter than H.
+    /// The list, or a buffer, is refused by the first of these that applies, and neither table is written: 1 no task or
+    /// more than 16; then task by task 2 the period is 0 or above 16,384, 9 the card is small and its timer does not have
+    /// the period, 3 the run time is 0 or above the deadline, 4 the deadline is above the period, 5 the offset is above
+    /// 16,384; then 6 the hyperperiod is above 16,384; 7 `startup` is shorter than M + H; 8 `cycle` is shorter than H.
     Refused { number: u64, task: u64 },
 }
 
-/// Checks a list. `startup` needs M + H entries and `cycle` H; both may be longer, and entries that are not named keep
-/// their bytes.
+/// Checks a list for a wide card. `startup` needs M + H entries and `cycle` H; both may be longer, and entries that are
+/// not named keep their bytes.
 pub fn check(list: &[Task], policy: Policy, startup: &mut [u8], cycle: &mut [u8]) -> Answer {
     let mut row = [0; ROW];
-    match check_tasks(policy as u64, list, startup, cycle, &mut row) {
+    let code = check_tasks(policy as u64, list, startup, cycle, &mut row);
+    told(code, row)
+}
+
+/// Checks a list for the card that it names.
+pub fn check_card(
+    card: Card,
+    list: &[Task],
+    policy: Policy,
+    startup: &mut [u8],
+    cycle: &mut [u8],
+) -> Answer {
+    let mut row = [0; ROW];
+    let code = check_tasks_card(card as u64, policy as u64, list, startup, cycle, &mut row);
+    told(code, row)
+}
+
+/// The answer that a code and its row tell.
+fn told(code: u64, row: [u64; ROW]) -> Answer {
+    match code {
         0 => Answer::Feasible(Plan {
             latest: row[0],
             hyperperiod: row[1],
@@ -116,67 +123,7 @@ pub fn check(list: &[Task], policy: Policy, startup: &mut [u8], cycle: &mut [u8]
             task: row[1],
         },
         code => {
-            unreachable!("a known policy and a row of {ROW} words were answered {code}")
+            unreachable!("a known card and policy and a row of {ROW} words were answered {code}")
         }
-    }
-}
-
-/// As C calls it: a list of words O C D T for each task, a policy by number, and a row of words for the answer's values.
-pub fn check_words(
-    policy: u64,
-    list: &[u64],
-    startup: &mut [u8],
-    cycle: &mut [u8],
-    row: &mut [u64],
-) -> u64 {
-    call(sholakpite_check, policy, list, startup, cycle, row)
-}
-
-/// As C calls it with a list of task structs.
-pub fn check_tasks(
-    policy: u64,
-    list: &[Task],
-    startup: &mut [u8],
-    cycle: &mut [u8],
-    row: &mut [u64],
-) -> u64 {
-    call(sholakpite_check_tasks, policy, list, startup, cycle, row)
-}
-
-/// Either of the two functions above, over its list.
-type Entry<T> = unsafe extern "C" fn(
-    u64,
-    *const T,
-    usize,
-    *mut u8,
-    usize,
-    *mut u8,
-    usize,
-    *mut u64,
-    usize,
-) -> u64;
-
-fn call<T>(
-    entry: Entry<T>,
-    policy: u64,
-    list: &[T],
-    startup: &mut [u8],
-    cycle: &mut [u8],
-    row: &mut [u64],
-) -> u64 {
-    // A slice is never null, its memory is initialised, and the three that are written are borrowed by nobody else. A
-    // `Task` is four 64-bit words in the paper's order, as it is behind the function.
-    unsafe {
-        entry(
-            policy,
-            list.as_ptr(),
-            list.len(),
-            startup.as_mut_ptr(),
-            startup.len(),
-            cycle.as_mut_ptr(),
-            cycle.len(),
-            row.as_mut_ptr(),
-            row.len(),
-        )
     }
 }

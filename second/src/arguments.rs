@@ -7,7 +7,8 @@ const USAGE: &str = "second [--seed N] [--lists N] [--texts N] [--logs N] [--say
     (a run in which an answer never came fails, so fewer than some 20,000 lists, texts or logs may; 0 leaves them out)\n\
     second [--seed N] [--texts N] [--say] --through COMMAND [ARGS ..]\n\
     second --answer < TEXT\n\
-    second --try \"POLICY O C D T O C D T ...\" [--startup N] [--cycle N] [--row N]";
+    second --try \"POLICY O C D T O C D T ...\" [--card N] [--startup N] [--cycle N] [--row N]\n\
+    (card 0 is wide, 1 is small)";
 
 pub struct Arguments {
     pub seed: u64,

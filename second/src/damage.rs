@@ -1,8 +1,11 @@
 //! Cases of every kind: valid lists, damaged ones, wild words and calls that are wrong.
 
+use crate::card::{Card, CARDS, LONGEST_SMALL_PERIOD as LONGEST, SMALL_PERIODS};
 use crate::case::{words_of, Case};
 use crate::lists;
-use crate::paper::{Task, MOST_OFFSET, MOST_PERIOD, MOST_TASKS, ROW_WORDS, TASK_WORDS};
+use crate::paper::{
+    Task, MOST_OFFSET, MOST_PERIOD, MOST_TASKS, POLICY_COUNT, ROW_WORDS, TASK_WORDS,
+};
 use crate::random::Random;
 
 /// Words at and around the limits, and words that would wrap.
@@ -42,25 +45,30 @@ const TOO_LONG: [&[u64]; 7] = [
 ];
 
 pub fn any_case(random: &mut Random) -> Case {
-    let policy = random.below(4);
+    let card = random.pick(&CARDS);
+    let policy = random.below(POLICY_COUNT);
     match random.below(100) {
-        0..=61 => {
-            let list = words_of(&lists::valid(random));
-            Case::fitting(random, policy, list)
-        }
-        62..=86 => damaged(random, policy),
-        87..=91 => wild(random, policy),
-        92..=95 => wrong_count(random, policy),
-        _ => wrong_call(random, policy),
+        0..=61 => fitting(random, card, policy),
+        62..=86 => damaged(random, card, policy),
+        87..=91 => wild(random, card, policy),
+        92..=95 => wrong_count(random, card, policy),
+        _ => wrong_call(random, card, policy),
     }
 }
 
+/// A valid list, with buffers that fit.
+fn fitting(random: &mut Random, card: Card, policy: u64) -> Case {
+    let list = words_of(&lists::valid(random, card));
+    Case::fitting(random, card.number(), policy, list)
+}
+
 /// A valid list with one to three things spoilt; buffers fit the list as it was.
-fn damaged(random: &mut Random, policy: u64) -> Case {
-    let mut tasks = lists::valid(random);
-    let mut case = Case::fitting(random, policy, words_of(&tasks));
+fn damaged(random: &mut Random, card: Card, policy: u64) -> Case {
+    let mut tasks = lists::valid(random, card);
+    let mut case = Case::fitting(random, card.number(), policy, words_of(&tasks));
     for _ in 0..random.pick(&[1, 1, 1, 2, 2, 3]) {
         match random.below(8) {
+            0 | 1 if card == Card::Small => spoil_timer(random, &mut tasks),
             0..=3 => spoil_field(random, &mut tasks),
             4 => spoil_hyperperiod(random, &mut tasks),
             5 => case.startup_len = shorter(random, case.startup_len),
@@ -73,6 +81,25 @@ fn damaged(random: &mut Random, policy: u64) -> Case {
     }
     case.list = words_of(&tasks);
     case
+}
+
+/// A period that the small card's timer does not have, or now and then another that it has; the other fields often stay
+/// inside their limits.
+pub fn spoil_timer(random: &mut Random, tasks: &mut [Task]) {
+    let at = random.index(tasks.len());
+    let timed = random.pick(&SMALL_PERIODS);
+    tasks[at].period = match random.below(8) {
+        0 | 1 => timed + 1,
+        2 => timed - 1,
+        // Cut to eight bits, it looks right.
+        3 => timed + (random.between(1, 63) << 8),
+        4 => LONGEST * random.between(2, MOST_PERIOD / LONGEST),
+        5 => random.between(LONGEST + 1, MOST_PERIOD),
+        _ => random.between(1, LONGEST),
+    };
+    if !random.once_in(4) {
+        fit_into_period(&mut tasks[at]);
+    }
 }
 
 fn spoil_field(random: &mut Random, tasks: &mut [Task]) {
@@ -113,9 +140,13 @@ fn spoil_hyperperiod(random: &mut Random, tasks: &mut Vec<Task>) {
     tasks.resize(count, tasks[0]);
     for (task, &period) in tasks.iter_mut().zip(set.iter().cycle()) {
         task.period = period;
-        task.deadline = task.deadline.min(period);
-        task.run = task.run.min(task.deadline);
+        fit_into_period(task);
     }
+}
+
+fn fit_into_period(task: &mut Task) {
+    task.deadline = task.deadline.min(task.period);
+    task.run = task.run.min(task.deadline);
 }
 
 /// Often one entry less, which the caller's lengths make just too short.
@@ -128,7 +159,7 @@ fn shorter(random: &mut Random, len: usize) -> usize {
 }
 
 /// Words without any order: all tiny, or all from around the limits.
-fn wild(random: &mut Random, policy: u64) -> Case {
+fn wild(random: &mut Random, card: Card, policy: u64) -> Case {
     let tiny = random.once_in(2);
     let tasks = random.between(1, if tiny { 3 } else { MOST_TASKS as u64 });
     let list = (0..TASK_WORDS as u64 * tasks)
@@ -140,7 +171,7 @@ fn wild(random: &mut Random, policy: u64) -> Case {
             }
         })
         .collect();
-    let mut case = Case::fitting(random, policy, list);
+    let mut case = Case::fitting(random, card.number(), policy, list);
     if random.once_in(4) {
         case.startup_len = shorter(random, case.startup_len);
     }
@@ -151,7 +182,7 @@ fn wild(random: &mut Random, policy: u64) -> Case {
 }
 
 /// No task or too many; some counts look right when cut to 8 or 16 bits.
-fn wrong_count(random: &mut Random, policy: u64) -> Case {
+fn wrong_count(random: &mut Random, card: Card, policy: u64) -> Case {
     let count = match random.below(400) {
         0 => 65_536 + random.index(MOST_TASKS + 1),
         1..=20 => 256 + random.index(MOST_TASKS + 1),
@@ -160,7 +191,7 @@ fn wrong_count(random: &mut Random, policy: u64) -> Case {
         131..=280 => MOST_TASKS + 1,
         _ => random.between(17, 40) as usize,
     };
-    let pattern = words_of(&lists::valid(random));
+    let pattern = words_of(&lists::valid(random, card));
     let list = if random.once_in(3) {
         (0..TASK_WORDS * count)
             .map(|_| random.pick(&BORDERS))
@@ -173,29 +204,24 @@ fn wrong_count(random: &mut Random, policy: u64) -> Case {
             .take(TASK_WORDS * count)
             .collect()
     };
-    let mut case = Case::fitting(random, policy, list);
+    let mut case = Case::fitting(random, card.number(), policy, list);
     case.startup_len = random.below(80) as usize;
     case.cycle_len = random.below(80) as usize;
     case
 }
 
-/// A call that is wrong for one of three reasons, sometimes for two.
-fn wrong_call(random: &mut Random, policy: u64) -> Case {
+/// A call that is wrong for one of four reasons, sometimes for two.
+fn wrong_call(random: &mut Random, card: Card, policy: u64) -> Case {
     let mut case = match random.below(3) {
-        0 => damaged(random, policy),
-        1 => wrong_count(random, policy),
-        _ => {
-            let list = words_of(&lists::valid(random));
-            Case::fitting(random, policy, list)
-        }
+        0 => damaged(random, card, policy),
+        1 => wrong_count(random, card, policy),
+        _ => fitting(random, card, policy),
     };
     for _ in 0..random.pick(&[1, 1, 1, 2]) {
-        match random.below(3) {
-            0 => {
-                let any = random.between(4, u64::MAX);
-                case.policy = random.pick(&[4, 5, 7, 255, 256, 259, 1 << 32, u64::MAX, any]);
-            }
-            1 => {
+        match random.below(4) {
+            0 => case.card = unknown(random, CARDS.len() as u64),
+            1 => case.policy = unknown(random, POLICY_COUNT),
+            2 => {
                 let words = case.list.len() + random.between(1, 3) as usize;
                 case.list.resize(words, random.below(4));
             }
@@ -206,4 +232,11 @@ fn wrong_call(random: &mut Random, policy: u64) -> Case {
         }
     }
     case
+}
+
+/// A number from `first` on, often one that looks right once it is cut.
+pub fn unknown(random: &mut Random, first: u64) -> u64 {
+    let any = random.between(first, u64::MAX);
+    let cut = random.below(first) + (1 << random.between(8, 63));
+    random.pick(&[first, first + 1, 7, 255, cut, cut, u64::MAX, any])
 }

@@ -1,5 +1,6 @@
 //! Random lists inside their limits: periods, then run times, deadlines and offsets.
 
+use crate::card::{Card, LONGEST_SMALL_PERIOD, SMALL_PERIODS};
 use crate::paper::{self, Task, MOST_HYPERPERIOD, MOST_OFFSET, MOST_TASKS};
 use crate::random::Random;
 
@@ -22,13 +23,16 @@ const LONG: [&[u64]; 9] = [
     &[2, 64, 8_192],
 ];
 
-/// A list that no refusal from 1 to 6 applies to.
-pub fn valid(random: &mut Random) -> Vec<Task> {
+/// A list that no refusal but 7 and 8 applies to on this card.
+pub fn valid(random: &mut Random, card: Card) -> Vec<Task> {
     if random.once_in(20) {
-        return late(random);
+        return late(random, card);
     }
     let count = count(random);
-    let mut periods = periods(random, count);
+    let mut periods = match card {
+        Card::Wide => periods(random, count),
+        Card::Small => small_periods(random, count),
+    };
     // Sorted lists let list order meet more deadlines.
     if random.once_in(3) {
         periods.sort_unstable();
@@ -51,9 +55,13 @@ pub fn valid(random: &mut Random) -> Vec<Task> {
 }
 
 /// A long and a short task; the short one wakes last, so a first miss is often late.
-fn late(random: &mut Random) -> Vec<Task> {
-    let period = random.between(2, 6);
-    let times = random.between(2, 8);
+fn late(random: &mut Random, card: Card) -> Vec<Task> {
+    let (period, times) = loop {
+        let (period, times) = (random.between(2, 6), random.between(2, 8));
+        if card.times(period) && card.times(period * times) {
+            break (period, times);
+        }
+    };
     let hyperperiod = period * times;
     let run = random.between(1, period - 1);
     let short = Task {
@@ -93,8 +101,7 @@ fn periods(random: &mut Random, count: usize) -> Vec<u64> {
         let set = random.pick(&LONG);
         return (0..count).map(|i| set[i % set.len()]).collect();
     }
-    // With periods of at least `count`, one slot for each job is never too much.
-    let least = random.pick(&[1, count.div_ceil(2), count, count]) as u64;
+    let least = least(random, count);
     let most = match random.below(200) {
         0..=119 => 64,
         120..=169 => 720,
@@ -108,6 +115,24 @@ fn periods(random: &mut Random, count: usize) -> Vec<u64> {
         3 => neighbours(random, count, least, most),
         _ => loose(random, count, least, most),
     }
+}
+
+/// Periods of the small card's timer that go into one of them, so that H is often below 240.
+fn small_periods(random: &mut Random, count: usize) -> Vec<u64> {
+    let least = least(random, count);
+    let enough = SMALL_PERIODS.into_iter().filter(|&period| period >= least);
+    let longest = if random.once_in(3) {
+        LONGEST_SMALL_PERIOD
+    } else {
+        random.pick(&enough.clone().collect::<Vec<_>>())
+    };
+    let fitting: Vec<u64> = enough.filter(|period| longest % period == 0).collect();
+    (0..count).map(|_| random.pick(&fitting)).collect()
+}
+
+/// With periods of at least `count`, one slot for each job is never too much.
+fn least(random: &mut Random, count: usize) -> u64 {
+    random.pick(&[1, count.div_ceil(2), count, count]) as u64
 }
 
 /// Each period is a base doubled some times.
@@ -209,13 +234,16 @@ fn set_offsets(random: &mut Random, tasks: &mut [Task], hyperperiod: u64) {
 #[cfg(test)]
 mod tests {
     use super::*;
+    use crate::card::CARDS;
 
     #[test]
     fn valid_lists_are_not_refused() {
         let mut random = Random::new(1);
         for _ in 0..2000 {
-            let tasks = valid(&mut random);
-            assert_eq!(paper::refusals(&tasks, usize::MAX, usize::MAX), []);
+            for card in CARDS {
+                let tasks = valid(&mut random, card);
+                assert_eq!(paper::refusals(card, &tasks, usize::MAX, usize::MAX), []);
+            }
         }
     }
 }

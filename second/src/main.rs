@@ -4,6 +4,7 @@
 //! its archive; a command that answers over pipes can be compared too.
 
 mod arguments;
+mod card;
 mod case;
 mod counts;
 mod damage;

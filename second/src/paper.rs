@@ -1,5 +1,7 @@
 //! The rules of the paper: limits, policies, refusals in their order, answers.
 
+use crate::card::Card;
+
 pub const MOST_TASKS: usize = 16;
 pub const MOST_PERIOD: u64 = 16_384;
 pub const MOST_OFFSET: u64 = 16_384;
@@ -7,6 +9,8 @@ pub const MOST_HYPERPERIOD: u64 = 16_384;
 pub const IDLE: u8 = 255;
 pub const ROW_WORDS: usize = 8;
 pub const TASK_WORDS: usize = 4;
+/// How many policies there are; numbers from this on name none.
+pub const POLICY_COUNT: u64 = 4;
 
 #[derive(Clone, Copy, PartialEq, Debug)]
 pub struct Task {
@@ -105,11 +109,14 @@ pub fn load(tasks: &[Task], hyperperiod: u64) -> u64 {
         .sum()
 }
 
-/// Refusals 2 to 5 that apply to one task; only comparisons, so nothing can wrap.
-fn task_refusals(task: &Task) -> Vec<u64> {
+/// Refusals 2, 9, 3, 4 and 5 that apply to one task; only comparisons, so nothing can wrap.
+fn task_refusals(card: Card, task: &Task) -> Vec<u64> {
     let mut numbers = Vec::new();
     if task.period == 0 || task.period > MOST_PERIOD {
         numbers.push(2);
+    }
+    if !card.times(task.period) {
+        numbers.push(9);
     }
     if task.run == 0 || task.run > task.deadline {
         numbers.push(3);
@@ -123,14 +130,18 @@ fn task_refusals(task: &Task) -> Vec<u64> {
     numbers
 }
 
-/// Every refusal (number, task) that applies, in the paper's order; the first is given.
-pub fn refusals(tasks: &[Task], startup_len: usize, cycle_len: usize) -> Vec<(u64, u64)> {
+/// A refusal's number and its task.
+pub type Refusal = (u64, u64);
+
+/// Every refusal that applies, in the paper's order; the first is given.
+pub fn refusals(card: Card, tasks: &[Task], startup_len: usize, cycle_len: usize) -> Vec<Refusal> {
     let mut found = Vec::new();
     if tasks.is_empty() || tasks.len() > MOST_TASKS {
         found.push((1, 0));
     }
     for (i, task) in tasks.iter().enumerate() {
-        found.extend(task_refusals(task).iter().map(|&number| (number, i as u64)));
+        let numbers = task_refusals(card, task);
+        found.extend(numbers.iter().map(|&number| (number, i as u64)));
     }
     // H, M + H and the buffers mean something only for a list inside its limits.
     if found.is_empty() {
@@ -153,4 +164,39 @@ pub fn refusals(tasks: &[Task], startup_len: usize, cycle_len: usize) -> Vec<(u6
 pub fn needed(tasks: &[Task]) -> Option<(usize, usize)> {
     let h = hyperperiod(tasks)?;
     Some(((largest_offset(tasks) + h) as usize, h as usize))
+}
+
+#[cfg(test)]
+mod tests {
+    use super::*;
+    use crate::card::CARDS;
+
+    const ROOM: usize = usize::MAX;
+
+    #[test]
+    fn a_task_is_refused_2_then_9_then_3_4_and_5() {
+        let all = tasks_of(&[16_385, 3, 2, 0, 16_385, 8, 8, 7]);
+        let wide = [(2, 0), (3, 0), (4, 0), (5, 0), (4, 1), (5, 1)];
+        assert_eq!(refusals(Card::Wide, &all, ROOM, ROOM), wide);
+        let small = [
+            (2, 0),
+            (9, 0),
+            (3, 0),
+            (4, 0),
+            (5, 0),
+            (9, 1),
+            (4, 1),
+            (5, 1),
+        ];
+        assert_eq!(refusals(Card::Small, &all, ROOM, ROOM), small);
+    }
+
+    #[test]
+    fn a_short_buffer_is_refused_7_and_8_on_either_card() {
+        let list_b = tasks_of(&[0, 2, 4, 4, 1, 1, 2, 4]);
+        for card in CARDS {
+            assert_eq!(refusals(card, &list_b, 5, 4), []);
+            assert_eq!(refusals(card, &list_b, 4, 3), [(7, 0), (8, 0)]);
+        }
+    }
 }

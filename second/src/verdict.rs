@@ -1,7 +1,8 @@
 //! The whole answer of the paper for one case, read off the walk.
 
+use crate::card::Card;
 use crate::case::Case;
-use crate::paper::{self, Answer, Policy, Task, ROW_WORDS, TASK_WORDS};
+use crate::paper::{self, Answer, Policy, Refusal, Task, ROW_WORDS, TASK_WORDS};
 use crate::readoff;
 use crate::walk::{self, Miss, Walk};
 
@@ -10,8 +11,8 @@ pub struct Verdict {
     pub answer: Answer,
     pub startup: Vec<u8>,
     pub cycle: Vec<u8>,
-    /// How many refusals apply, to see that their order was tried.
-    pub refusals: usize,
+    /// Every refusal that applies, to see that their order was tried.
+    pub refusals: Vec<Refusal>,
     /// Under EDF an earlier release went before a lower task.
     pub release_decided: bool,
     /// A preemption at instant M + 2H.
@@ -26,7 +27,7 @@ impl Verdict {
             answer,
             startup: Vec::new(),
             cycle: Vec::new(),
-            refusals: 0,
+            refusals: Vec::new(),
             release_decided: false,
             last_preemption: false,
             broken: Vec::new(),
@@ -36,17 +37,17 @@ impl Verdict {
 
 pub fn judge(case: &Case) -> Verdict {
     let words_left = case.list.len() % TASK_WORDS;
-    let Some(policy) = Policy::of(case.policy) else {
+    let (Some(card), Some(policy)) = (Card::of(case.card), Policy::of(case.policy)) else {
         return Verdict::plain(Answer::NotAsked);
     };
     if words_left != 0 || case.row_len < ROW_WORDS {
         return Verdict::plain(Answer::NotAsked);
     }
     let tasks = paper::tasks_of(&case.list);
-    let refusals = paper::refusals(&tasks, case.startup_len, case.cycle_len);
+    let refusals = paper::refusals(card, &tasks, case.startup_len, case.cycle_len);
     if let Some(&(number, task)) = refusals.first() {
         return Verdict {
-            refusals: refusals.len(),
+            refusals,
             ..Verdict::plain(Answer::Refused { number, task })
         };
     }

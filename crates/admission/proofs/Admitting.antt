@@ -6,6 +6,7 @@ use native.Mathlib.Omega.{arith}
 use lib.Dec.{ltb}
 use lib.ListN.{length}
 use borrow.Author.Tests.{eq-eqb, ne-eqb, lt-ltb, le-ltb}
+use Rattle.card.specs.declared.Card.{Card}
 use Rattle.task.specs.declared.Task.{Task}
 use Rattle.task.specs.Limits.{mostTasks, longestHyperperiod}
 use Rattle.task.specs.Tasks.{latest, hyperperiod}
@@ -13,24 +14,24 @@ use Rattle.refusal.specs.declared.Refusal.the-variants.{Count, Hyperperiod, Sta
 use Rattle.refusal.specs.Refusals.{numberOf, sound, refused, refusedIf}
 use Rattle.task.specs.Checks.{tasksRefusal, firstRefusal}
 
-module _ (l : List Task) (startup cycle : ℕ) where
-  pub none-refused : length l ≡ 0 → firstRefusal l startup cycle ≡ refused (numberOf Count) 0
+module _ (c : Card) (l : List Task) (startup cycle : ℕ) where
+  pub none-refused : length l ≡ 0 → firstRefusal c l startup cycle ≡ refused (numberOf Count) 0
   none-refused h = rw (eq-eqb (length l) 0 h)
 
-  pub many-refused : mostTasks < length l → firstRefusal l startup cycle ≡ refused (numberOf Count) 0
+  pub many-refused : mostTasks < length l → firstRefusal c l startup cycle ≡ refused (numberOf Count) 0
   many-refused h = rw (ne-eqb (length l) 0 (omega arith), lt-ltb mostTasks (length l) h)
 
   module _ (some : 0 < length l) (few : length l ≤ mostTasks) where
-    pub task-refused : (n i : ℕ) → tasksRefusal 0 l ≡ refused n i → firstRefusal l startup cycle ≡ refused n i
+    pub task-refused : (n i : ℕ) → tasksRefusal c 0 l ≡ refused n i → firstRefusal c l startup cycle ≡ refused n i
     task-refused n i e = rw (ne-eqb (length l) 0 (omega arith), le-ltb mostTasks (length l) few, e)
 
-    module _ (ok : tasksRefusal 0 l ≡ sound) where
-      pub hyperperiod-refused : longestHyperperiod < hyperperiod l → firstRefusal l startup cycle ≡ refused (numberOf Hyperperiod) 0
+    module _ (ok : tasksRefusal c 0 l ≡ sound) where
+      pub hyperperiod-refused : longestHyperperiod < hyperperiod l → firstRefusal c l startup cycle ≡ refused (numberOf Hyperperiod) 0
       hyperperiod-refused h =
           rw (ne-eqb (length l) 0 (omega arith), le-ltb mostTasks (length l) few, ok, lt-ltb longestHyperperiod (hyperperiod l) h)
 
       module _ (short : hyperperiod l ≤ longestHyperperiod) where
-        pub startup-refused : startup < latest l + hyperperiod l → firstRefusal l startup cycle ≡ refused (numberOf Startup) 0
+        pub startup-refused : startup < latest l + hyperperiod l → firstRefusal c l startup cycle ≡ refused (numberOf Startup) 0
         startup-refused h =
             rw (
               ne-eqb (length l) 0 (omega arith),
@@ -41,7 +42,7 @@ module _ (l : List Task) (startup cycle : ℕ) where
             )
 
         module _ (room : latest l + hyperperiod l ≤ startup) where
-          last : firstRefusal l startup cycle ≡ refusedIf (ltb cycle (hyperperiod l)) Cycle 0
+          last : firstRefusal c l startup cycle ≡ refusedIf (ltb cycle (hyperperiod l)) Cycle 0
           last =
               rw (
                 ne-eqb (length l) 0 (omega arith),
@@ -51,8 +52,8 @@ module _ (l : List Task) (startup cycle : ℕ) where
                 le-ltb startup (latest l + hyperperiod l) room,
               )
 
-          pub cycle-refused : cycle < hyperperiod l → firstRefusal l startup cycle ≡ refused (numberOf Cycle) 0
+          pub cycle-refused : cycle < hyperperiod l → firstRefusal c l startup cycle ≡ refused (numberOf Cycle) 0
           cycle-refused h = last ∙ rw (lt-ltb cycle (hyperperiod l) h)
 
-          pub not-refused : hyperperiod l ≤ cycle → firstRefusal l startup cycle ≡ sound
+          pub not-refused : hyperperiod l ≤ cycle → firstRefusal c l startup cycle ≡ sound
           not-refused h = last ∙ rw (le-ltb cycle (hyperperiod l) h)

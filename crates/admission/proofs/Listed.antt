@@ -11,6 +11,7 @@ use Rattle.divisor.specs.declared.Multiple.{Multiple}
 use Rattle.divisor.specs.declared.Multiple.the-variants.{Of, Above}
 use Rattle.divisor.specs.Divisors.{lcm, within}
 use Rattle.divisor.proofs.Divisors.{within-above, is-of, is-above}
+use Rattle.card.specs.declared.Card.{Card}
 use Rattle.task.specs.declared.Task.{Task}
 use Rattle.refusal.specs.declared.Refusal.{Refusal}
 use Rattle.refusal.specs.declared.Check.{Check}
@@ -22,25 +23,25 @@ use Rattle.task.proofs.Refusing.{Fine, tasks-fine}
 use Rattle.task.proofs.Hyperperiods.{hyperperiod-next, hyperperiod-grows}
 
 -- What is found at task i decides, or leaves the tasks after it.
-module _ (items : List Task) (n : ℕ) (room : n ≤ length items) where
+module _ (c : Card) (items : List Task) (n : ℕ) (room : n ≤ length items) where
   abbrev listed : List Task
   listed = take n items
 
-  tasks-next : (i : ℕ) → i < n → tasksRefusal i (drop i listed) ≡ (taskRefusal i (task items i) then tasksRefusal (suc i) (drop (suc i) listed))
+  tasks-next : (i : ℕ) → i < n → tasksRefusal c i (drop i listed) ≡ (taskRefusal c i (task items i) then tasksRefusal c (suc i) (drop (suc i) listed))
   tasks-next i b =
       rw (drop-cons listed i nobody (omega (arith, length-take n items)), getD-take n items i nobody b)
 
-  module _ (i : ℕ) (b : i < n) (k : Check) (found : findingOf k ≡ taskRefusal i (task items i))
-      (so-far : tasksRefusal 0 listed ≡ tasksRefusal i (drop i listed)) where
-    pub refused-here : (r : Refusal) (j : ℕ) → k ≡ Refused r j → refused (numberOf r) j ≡ tasksRefusal 0 listed
-    refused-here r j e = sym (so-far ∙ tasks-next i b ∙ ap (λ f. f then tasksRefusal (suc i) (drop (suc i) listed)) (sym found ∙ ap findingOf e))
+  module _ (i : ℕ) (b : i < n) (k : Check) (found : findingOf k ≡ taskRefusal c i (task items i))
+      (so-far : tasksRefusal c 0 listed ≡ tasksRefusal c i (drop i listed)) where
+    pub refused-here : (r : Refusal) (j : ℕ) → k ≡ Refused r j → refused (numberOf r) j ≡ tasksRefusal c 0 listed
+    refused-here r j e = sym (so-far ∙ tasks-next i b ∙ ap (λ f. f then tasksRefusal c (suc i) (drop (suc i) listed)) (sym found ∙ ap findingOf e))
 
-    pub sound-here : k ≡ Sound → tasksRefusal 0 listed ≡ tasksRefusal (i + 1) (drop (i + 1) listed)
+    pub sound-here : k ≡ Sound → tasksRefusal c 0 listed ≡ tasksRefusal c (i + 1) (drop (i + 1) listed)
     sound-here e =
-        rw add-one (so-far ∙ tasks-next i b ∙ ap (λ f. f then tasksRefusal (suc i) (drop (suc i) listed)) (sym found ∙ ap findingOf e))
+        rw add-one (so-far ∙ tasks-next i b ∙ ap (λ f. f then tasksRefusal c (suc i) (drop (suc i) listed)) (sym found ∙ ap findingOf e))
 
-  pub sound-all : tasksRefusal 0 listed ≡ tasksRefusal n (drop n listed) → sound ≡ tasksRefusal 0 listed
-  sound-all e = sym (e ∙ ap (tasksRefusal n) (drop-of-length-le listed {i = n} (omega (arith, length-take n items))))
+  pub sound-all : tasksRefusal c 0 listed ≡ tasksRefusal c n (drop n listed) → sound ≡ tasksRefusal c 0 listed
+  sound-all e = sym (e ∙ ap (tasksRefusal c n) (drop-of-length-le listed {i = n} (omega (arith, length-take n items))))
 
 -- what a task wants in H instants is no more than H
 pub want-few : (l : List Task) (H i : ℕ) → Fine (task l i) → want l H i ≤ H
@@ -50,9 +51,9 @@ want-few l H i f =
     omega (arith, mul-le-mul-right (turns l H i) e, mul-div-le H (τ .period))
 
 -- The sum of what they want, where none of them is refused.
-module _ (items : List Task) (n H : ℕ) (room : n ≤ length items) (ok : tasksRefusal 0 (take n items) ≡ sound) where
+module _ (items : List Task) (n H : ℕ) (room : n ≤ length items) (ok : (c : Card) × (tasksRefusal c 0 (take n items) ≡ sound)) where
   pub task-fine : (i : ℕ) → i < n → Fine (task items i)
-  task-fine i b = rw (getD-take n items i nobody) at (tasks-fine 0 (take n items) ok i (omega (arith, length-take n items)))
+  task-fine i b = rw (getD-take n items i nobody) at (tasks-fine (ok .0) 0 (take n items) (ok .1) i (omega (arith, length-take n items)))
 
   pub want-next : (i : ℕ) → i < n → sum (want (take n items) H) (i + 1) ≡ sum (want (take n items) H) i + want items H i
   want-next i b = rw (add-one, getD-take n items i nobody b)

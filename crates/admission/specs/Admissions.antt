@@ -1,7 +1,8 @@
--- What is said of a list and the lengths of two buffers before any slot is given. Document 01, "What comes back".
+-- What is said of a list for a card, and of the lengths of two buffers, before any slot is given. Document 01, "What comes back".
 use mathlib.Core.Path.{_≡_}
 use mathlib.Core.List.{List}
 use Prim.Native.Nat.{ℕ}
+use Rattle.card.specs.declared.Card.{Card}
 use Rattle.task.specs.declared.Task.{Task}
 use Rattle.admission.specs.declared.Measures.{Measures}
 use Rattle.admission.specs.declared.Admission.{Admission}
@@ -14,11 +15,11 @@ use Rattle.task.specs.Checks.{firstRefusal}
 abbrev pub measuresOf : List Task → Measures
 measuresOf l = record { latest = latest l; hyperperiod = hyperperiod l; load = load l (hyperperiod l) }
 
-pub record IsSound (l : List Task) (startup cycle : ℕ) (m : Measures) : Type 0 where
-  pub no-refusal : firstRefusal l startup cycle ≡ sound
+pub record IsSound (c : Card) (l : List Task) (startup cycle : ℕ) (m : Measures) : Type 0 where
+  pub no-refusal : firstRefusal c l startup cycle ≡ sound
   pub measured : m ≡ measuresOf l
 
 -- refused exactly by the first refusal, sound exactly where there is none
-abbrev pub Admits : List Task → ℕ → ℕ → Admission → Type 0
-Admits l startup cycle (Refused r i) = firstRefusal l startup cycle ≡ refused (numberOf r) i
-Admits l startup cycle (Sound m) = IsSound l startup cycle m
+abbrev pub Admits : Card → List Task → ℕ → ℕ → Admission → Type 0
+Admits c l startup cycle (Refused r i) = firstRefusal c l startup cycle ≡ refused (numberOf r) i
+Admits c l startup cycle (Sound m) = IsSound c l startup cycle m

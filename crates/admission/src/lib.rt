@@ -5,6 +5,7 @@ ghost use mathlib.Core.Path.{_≡_};
 ghost use mathlib.Core.List.{List};
 ghost use Prim.Native.Nat.{_<_, _≤_};
 ghost use lib.ListN.{take};
+ghost use Rattle.card.specs.declared.Card.{Card};
 ghost use Rattle.task.specs.declared.Task.{Task};
 ghost use Rattle.task.specs.Limits.{mostTasks, longestHyperperiod};
 ghost use Rattle.task.specs.Tasks.{hyperperiod};
@@ -12,6 +13,7 @@ ghost use Rattle.task.specs.Arrays.{Holds};
 ghost use Rattle.refusal.specs.Refusals.{sound, findingOf};
 ghost use Rattle.task.specs.Checks.{tasksRefusal};
 ghost use Rattle.admission.specs.Admissions.{Admits};
+use card::Card;
 use divisor::Multiple;
 use refusal::Check;
 use refusal::Refusal;
@@ -25,14 +27,14 @@ pub struct Measures {
     pub load: usize,
 }
 
-// The first refusal of a list and two buffer lengths, or the list's measures where there is none.
+// The first refusal of a list for a card and two buffer lengths, or the list's measures where there is none.
 pub enum Admission {
     Refused(Refusal, usize),
     Sound(Measures),
 }
 
-pub fn admit(list: Tasks, startup: usize, cycle: usize) -> Admission
-    ensures { λ r. ⌜ ((l : List Task) → Holds list l → Admits l startup cycle r) ⌝ }
+pub fn admit(list: Tasks, card: Card, startup: usize, cycle: usize) -> Admission
+    ensures { λ r. ⌜ ((l : List Task) → Holds list l → Admits card l startup cycle r) ⌝ }
 {
     let count = list.count;
     if count == 0 {
@@ -42,15 +44,21 @@ pub fn admit(list: Tasks, startup: usize, cycle: usize) -> Admission
         return Admission::Refused(Refusal::Count, 0);
     }
     let items = list.items;
-    by_task(items, count, startup, cycle)
+    by_task(items, count, card, startup, cycle)
 }
 
-// Refusals 2 to 5, and then the later ones.
-fn by_task(items: [Task; Task::MOST], n: usize, startup: usize, cycle: usize) -> Admission
+// Refusals 2, 9, 3, 4 and 5, and then the later ones.
+fn by_task(
+    items: [Task; Task::MOST],
+    n: usize,
+    card: Card,
+    startup: usize,
+    cycle: usize,
+) -> Admission
     requires { ⌜ (0 < n) × (n ≤ mostTasks) ⌝ }
-    ensures { λ r. ⌜ Admits (take n items) startup cycle r ⌝ }
+    ensures { λ r. ⌜ Admits card (take n items) startup cycle r ⌝ }
 {
-    let found = check_all(items, n);
+    let found = check_all(items, n, card);
     match found {
         Check::Refused(why, task) => Admission::Refused(why, task),
         Check::Sound => by_hyperperiod(items, n, startup, cycle),
@@ -58,13 +66,13 @@ fn by_task(items: [Task; Task::MOST], n: usize, startup: usize, cycle: usize) ->
 }
 
 // The first refusal of the first n tasks, each by itself.
-fn check_all(items: [Task; Task::MOST], n: usize) -> Check
+fn check_all(items: [Task; Task::MOST], n: usize, card: Card) -> Check
     requires { ⌜ n ≤ mostTasks ⌝ }
-    ensures { λ r. ⌜ findingOf r ≡ tasksRefusal 0 (take n items) ⌝ }
+    ensures { λ r. ⌜ findingOf r ≡ tasksRefusal card 0 (take n items) ⌝ }
 {
     for i in 0..n {
         let task = items[i];
-        let found = task.check(i);
+        let found = task.check(card, i);
         match found {
             Check::Refused(why, number) => {
                 return Check::Refused(why, number);
@@ -75,11 +83,11 @@ fn check_all(items: [Task; Task::MOST], n: usize) -> Check
     Check::Sound
 }
 
-// Refusal 6, and then the later ones.
+// Refusal 6, and then the later ones. No card matters from here on: what is refused is so on every card.
 fn by_hyperperiod(items: [Task; Task::MOST], n: usize, startup: usize, cycle: usize) -> Admission
     requires { ⌜ (0 < n) × (n ≤ mostTasks) ⌝ }
-    requires { ⌜ tasksRefusal 0 (take n items) ≡ sound ⌝ }
-    ensures { λ r. ⌜ Admits (take n items) startup cycle r ⌝ }
+    requires { ⌜ ((c : Card) × (tasksRefusal c 0 (take n items) ≡ sound)) ⌝ }
+    ensures { λ r. ⌜ ((c : Card) → tasksRefusal c 0 (take n items) ≡ sound → Admits c (take n items) startup cycle r) ⌝ }
 {
     let whole = measure::hyperperiod(items, n);
     match whole {
@@ -97,9 +105,9 @@ fn by_room(
     cycle: usize,
 ) -> Admission
     requires { ⌜ (0 < n) × (n ≤ mostTasks) ⌝ }
-    requires { ⌜ tasksRefusal 0 (take n items) ≡ sound ⌝ }
+    requires { ⌜ ((c : Card) × (tasksRefusal c 0 (take n items) ≡ sound)) ⌝ }
     requires { ⌜ (whole ≡ hyperperiod (take n items)) × (whole ≤ longestHyperperiod) ⌝ }
-    ensures { λ r. ⌜ Admits (take n items) startup cycle r ⌝ }
+    ensures { λ r. ⌜ ((c : Card) → tasksRefusal c 0 (take n items) ≡ sound → Admits c (take n items) startup cycle r) ⌝ }
 {
     let latest = measure::latest(items, n);
     if startup < latest + whole {

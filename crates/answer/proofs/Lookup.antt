@@ -8,6 +8,7 @@ use native.Mathlib.Decide.{decLt}
 use native.Mathlib.Omega.{arith}
 use lib.ListN.{length, take, drop, length-drop}
 use borrow.Author.Tests.{lt-ltb, le-ltb}
+use Rattle.card.specs.declared.Card.{Card}
 use Rattle.task.specs.declared.Task.{Task}
 use Rattle.task.specs.Tasks.{latest, hyperperiod}
 use Rattle.schedule.specs.declared.Policy.{Policy}
@@ -53,9 +54,9 @@ same-byte p l t u e = elim (decLt (pickAt p l t) (length l)) [
   | no h ↦ rw (endless-slots p l .rest t (omega arith), endless-slots p l .rest u (omega arith))
 ]
 
-module _ (p : Policy) (l : List Task) (startup cycle s c : List ℕ) (q : Plan) (x : Permitted p l startup cycle (feasible q) s c) where
+module _ (card : Card) (p : Policy) (l : List Task) (startup cycle s c : List ℕ) (q : Plan) (x : Permitted card p l startup cycle (feasible q) s c) where
   ok : Passed l (length startup) (length cycle)
-  ok = passed l (length startup) (length cycle) (x .no-refusal)
+  ok = passed card l (length startup) (length cycle) (x .no-refusal)
 
   abbrev start : ℕ
   start = latest l + hyperperiod l

@@ -7,6 +7,7 @@ use native.Mathlib.Omega.{arith}
 use lib.Dec.{ltb}
 use lib.ListN.{length}
 use borrow.Author.Tests.{ltb-true, ltb-false}
+use Rattle.card.specs.declared.Card.{Card}
 use Rattle.task.specs.declared.Task.{Task}
 use Rattle.task.specs.Tasks.{latest, hyperperiod, load}
 use Rattle.schedule.specs.declared.Policy.{Policy}
@@ -54,16 +55,16 @@ module _ (p : Policy) (l : List Task) (startup cycle : List ℕ) where
   byRefusal (refusedBy n i) = record { said = refused n i; startup = startup; cycle = cycle }
   byRefusal sound = byLoad (ltb (hyperperiod l) (load l (hyperperiod l)))
 
-  abbrev pub model : Outcome
-  model = byRefusal (firstRefusal l (length startup) (length cycle))
+abbrev pub model : Card → Policy → List Task → List ℕ → List ℕ → Outcome
+model card p l startup cycle = byRefusal p l startup cycle (firstRefusal card l (length startup) (length cycle))
 
-module _ (p : Policy) (l : List Task) (startup cycle : List ℕ) where
+module _ (card : Card) (p : Policy) (l : List Task) (startup cycle : List ℕ) where
   abbrev Allowed : Outcome → Type 0
-  Allowed o = Permitted p l startup cycle (o .said) (o .startup) (o .cycle)
+  Allowed o = Permitted card p l startup cycle (o .said) (o .startup) (o .cycle)
 
-  module _ (e : firstRefusal l (length startup) (length cycle) ≡ sound) (room : load l (hyperperiod l) ≤ hyperperiod l) where
+  module _ (e : firstRefusal card l (length startup) (length cycle) ≡ sound) (room : load l (hyperperiod l) ≤ hyperperiod l) where
     ok : Passed l (length startup) (length cycle)
-    ok = passed l (length startup) (length cycle) e
+    ok = passed card l (length startup) (length cycle) e
 
     miss-permitted : (d : ℕ) → ((i t : ℕ) → t < d → Miss l (endless p l) i t → ⊥) →
         (d ≤ latest l + hyperperiod l + hyperperiod l → FirstMiss l (endless p l) (missAt p l d) d) →
@@ -89,7 +90,7 @@ module _ (p : Policy) (l : List Task) (startup cycle : List ℕ) where
         miss-permitted (missBelow p l n) (λ i t h. miss-soonest p (is-sound ok) n t i h) (λ h. first-miss p (is-sound ok) n (omega arith))
         (ltb (latest l + hyperperiod l + hyperperiod l) (missBelow p l n)) refl
 
-  load-permitted : firstRefusal l (length startup) (length cycle) ≡ sound → (b : Bool) → ltb (hyperperiod l) (load l (hyperperiod l)) ≡ b →
+  load-permitted : firstRefusal card l (length startup) (length cycle) ≡ sound → (b : Bool) → ltb (hyperperiod l) (load l (hyperperiod l)) ≡ b →
       Allowed (byLoad p l startup cycle b)
   load-permitted e true f = record {
     no-refusal = e;
@@ -100,10 +101,10 @@ module _ (p : Policy) (l : List Task) (startup cycle : List ℕ) where
   }
   load-permitted e false f = search-permitted e (ltb-false (hyperperiod l) (load l (hyperperiod l)) f)
 
-  refusal-permitted : (f : Finding) → firstRefusal l (length startup) (length cycle) ≡ f → Allowed (byRefusal p l startup cycle f)
+  refusal-permitted : (f : Finding) → firstRefusal card l (length startup) (length cycle) ≡ f → Allowed (byRefusal p l startup cycle f)
   refusal-permitted (refusedBy n i) e = record { first-refusal = e; buffers = record { startup-kept = refl; cycle-kept = refl } }
   refusal-permitted sound e = load-permitted e (ltb (hyperperiod l) (load l (hyperperiod l))) refl
 
   pub model-permitted :
-      Permitted p l startup cycle (model p l startup cycle .said) (model p l startup cycle .startup) (model p l startup cycle .cycle)
-  model-permitted = refusal-permitted (firstRefusal l (length startup) (length cycle)) refl
+      let o = model card p l startup cycle in Permitted card p l startup cycle (o .said) (o .startup) (o .cycle)
+  model-permitted = refusal-permitted (firstRefusal card l (length startup) (length cycle)) refl

@@ -5,6 +5,7 @@ use Prim.Native.Nat.{ℕ, _+_, _-_, _<_, min}
 use native.Mathlib.Decide.{decLt}
 use native.Mathlib.Omega.{arith}
 use lib.ListN.{length}
+use Rattle.card.specs.declared.Card.{Card}
 use Rattle.task.specs.declared.Task.{Task}
 use Rattle.task.specs.Tasks.{latest, hyperperiod}
 use Rattle.schedule.specs.declared.Policy.{Policy}
@@ -48,7 +49,7 @@ first-once {l} {σ} {i} {d} {j} {e} f g = (tasks (decLt i j) (decLt j i), instan
     tasks (no h) (yes q) = absurd (f .none-lower j q (rw (← instants) at (g .miss)))
     tasks (no h) (no q) = omega arith
 
-module _ (p : Policy) (l : List Task) (startup cycle : List ℕ) where
+module _ (card : Card) (p : Policy) (l : List Task) (startup cycle : List ℕ) where
   kept : {r r′ : Row} {s c s′ c′ : List ℕ} → r ≡ r′ → Unchanged startup cycle s c → Unchanged startup cycle s′ c′ →
       (r ≡ r′) × (s ≡ s′) × (c ≡ c′)
   kept e u v = (e, cc, cc)
@@ -59,10 +60,10 @@ module _ (p : Policy) (l : List Task) (startup cycle : List ℕ) where
 
   -- a list is refused, or it is not
   apart : {n i : ℕ} {A : Type 0} →
-      firstRefusal l (length startup) (length cycle) ≡ refusedBy n i → firstRefusal l (length startup) (length cycle) ≡ sound → A
+      firstRefusal card l (length startup) (length cycle) ≡ refusedBy n i → firstRefusal card l (length startup) (length cycle) ≡ sound → A
   apart e f = let z : _≡_ {A = ℕ} 0 1 = cc in absurd (omega arith)
 
-  pub pinned : (r r′ : Row) (s c s′ c′ : List ℕ) → Permitted p l startup cycle r s c → Permitted p l startup cycle r′ s′ c′ →
+  pub pinned : (r r′ : Row) (s c s′ c′ : List ℕ) → Permitted card p l startup cycle r s c → Permitted card p l startup cycle r′ s′ c′ →
       (r ≡ r′) × (s ≡ s′) × (c ≡ c′)
   pinned (refused n i) (refused m j) s c s′ c′ x y = kept (cc) (x .buffers) (y .buffers)
   pinned (refused n i) (overloaded a b) s c s′ c′ x y = apart (x .first-refusal) (y .no-refusal)
@@ -86,7 +87,7 @@ module _ (p : Policy) (l : List Task) (startup cycle : List ℕ) where
 
   -- and so for the answers themselves
   pub answer-pinned : (a a′ : Answer) (s c s′ c′ : List ℕ) →
-      Promised p l startup cycle a s c → Promised p l startup cycle a′ s′ c′ → (a ≡ a′) × (s ≡ s′) × (c ≡ c′)
+      Promised card p l startup cycle a s c → Promised card p l startup cycle a′ s′ c′ → (a ≡ a′) × (s ≡ s′) × (c ≡ c′)
   answer-pinned a a′ s c s′ c′ x y =
       let e = pinned (row a) (row a′) s c s′ c′ (x .demand-2) (y .demand-2) in
       (sym (row-back a) ∙ ap answerOf (e .0) ∙ row-back a′, e .1, e .2)

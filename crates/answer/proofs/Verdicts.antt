@@ -6,6 +6,7 @@ use Prim.Native.Nat.{ℕ, _+_, _-_, _≤_}
 use native.Mathlib.Decide.{decLt}
 use native.Mathlib.Omega.{arith}
 use lib.ListN.{length}
+use Rattle.card.specs.declared.Card.{Card}
 use Rattle.task.specs.declared.Task.{Task}
 use Rattle.task.specs.Tasks.{latest, hyperperiod, load}
 use Rattle.schedule.specs.declared.Policy.{Policy}
@@ -21,10 +22,10 @@ use Rattle.answer.specs.Promise.{Permitted, EverybodysNo}
 use Rattle.task.proofs.Refusing.{Passed, passed}
 use Rattle.schedule.proofs.Admitted.{is-sound, offsets, first-due}
 
-module _ (p : Policy) (l : List Task) (startup cycle s c : List ℕ) where
-  module _ (q : Plan) (x : Permitted p l startup cycle (feasible q) s c) where
+module _ (card : Card) (p : Policy) (l : List Task) (startup cycle s c : List ℕ) where
+  module _ (q : Plan) (x : Permitted card p l startup cycle (feasible q) s c) where
     ok : Passed l (length startup) (length cycle)
-    ok = passed l (length startup) (length cycle) (x .no-refusal)
+    ok = passed card l (length startup) (length cycle) (x .no-refusal)
 
     pub feasible-meets : Follows p l (endless p l) × Legal l (endless p l) × MeetsAll l (endless p l)
     feasible-meets =
@@ -36,7 +37,7 @@ module _ (p : Policy) (l : List Task) (startup cycle s c : List ℕ) where
         ∙ endless-idles p l (is-sound ok) (latest l) (offsets ok) (x .room) (latest l + hyperperiod l) (omega arith)
 
   -- a miss falls at M + 2 H or before
-  pub missed-by : (i d : ℕ) → Permitted p l startup cycle (missed i d) s c → d ≤ latest l + hyperperiod l + hyperperiod l
+  pub missed-by : (i d : ℕ) → Permitted card p l startup cycle (missed i d) s c → d ≤ latest l + hyperperiod l + hyperperiod l
   missed-by i d x = elim (decLt (latest l + hyperperiod l + hyperperiod l) d) [
     | yes h ↦ absurd (endless-never p l (is-sound ok) (latest l) (offsets ok) (x .room)
         (λ j e b. x .first-miss .none-sooner j e (omega arith)) i d (x .first-miss .miss))
@@ -44,23 +45,23 @@ module _ (p : Policy) (l : List Task) (startup cycle s c : List ℕ) where
   ]
     where
       ok : Passed l (length startup) (length cycle)
-      ok = passed l (length startup) (length cycle) (x .no-refusal)
+      ok = passed card l (length startup) (length cycle) (x .no-refusal)
 
-  overloaded-nobody : (a b : ℕ) → Permitted p l startup cycle (overloaded a b) s c → NobodyMeets l
+  overloaded-nobody : (a b : ℕ) → Permitted card p l startup cycle (overloaded a b) s c → NobodyMeets l
   overloaded-nobody a b x =
-      let ok : Passed l (length startup) (length cycle) = passed l (length startup) (length cycle) (x .no-refusal) in
+      let ok : Passed l (length startup) (length cycle) = passed card l (length startup) (length cycle) (x .no-refusal) in
       overload (is-sound ok) (latest l + hyperperiod l) (first-due ok) (x .over)
 
-missed-nobody : (p : Policy) (l : List Task) (startup cycle s c : List ℕ) (i d : ℕ) →
-    Permitted p l startup cycle (missed i d) s c → p ≡ Edf → NobodyMeetsUpTo l d
-missed-nobody p l startup cycle s c i d x e =
-    edf-fatal (is-sound (passed l (length startup) (length cycle) (x .no-refusal))) i d
+missed-nobody : (card : Card) (p : Policy) (l : List Task) (startup cycle s c : List ℕ) (i d : ℕ) →
+    Permitted card p l startup cycle (missed i d) s c → p ≡ Edf → NobodyMeetsUpTo l d
+missed-nobody card p l startup cycle s c i d x e =
+    edf-fatal (is-sound (passed card l (length startup) (length cycle) (x .no-refusal))) i d
     (rw e at (x .first-miss .miss))
 
 -- what is permitted is everybody's no
-pub everybodys-no : (p : Policy) (l : List Task) (startup cycle s c : List ℕ) (r : Row) →
-    Permitted p l startup cycle r s c → EverybodysNo p l r
-everybodys-no p l startup cycle s c (refused number i) x = tt
-everybodys-no p l startup cycle s c (overloaded a b) x = overloaded-nobody p l startup cycle s c a b x
-everybodys-no p l startup cycle s c (missed i d) x = missed-nobody p l startup cycle s c i d x
-everybodys-no p l startup cycle s c (feasible q) x = tt
+pub everybodys-no : (card : Card) (p : Policy) (l : List Task) (startup cycle s c : List ℕ) (r : Row) →
+    Permitted card p l startup cycle r s c → EverybodysNo p l r
+everybodys-no card p l startup cycle s c (refused number i) x = tt
+everybodys-no card p l startup cycle s c (overloaded a b) x = overloaded-nobody card p l startup cycle s c a b x
+everybodys-no card p l startup cycle s c (missed i d) x = missed-nobody card p l startup cycle s c i d x
+everybodys-no card p l startup cycle s c (feasible q) x = tt

@@ -43,11 +43,11 @@ fn write_again(input: &[u8]) -> bool {
     let read = text::read(input);
     let tasks = read.tasks;
     let found = read.found;
-    let Found::Listed(policy) = found else {
+    let Found::Listed(card, policy) = found else {
         return send(b"");
     };
     let mut out = [0u8; text::MOST_BYTES];
-    let Saved::Length(n) = writer::write(tasks, policy, &mut out) else {
+    let Saved::Length(n) = writer::write(tasks, card, policy, &mut out) else {
         return send(b"");
     };
     if out.len() < n {

@@ -7,6 +7,7 @@ use lib.ListN.{length, take}
 use lib.Seq.{take-all}
 use Rattle.refusal.specs.Refusals.{sound}
 use Rattle.refusal.specs.declared.Refusal.{Refusal}
+use Rattle.card.specs.declared.Card.{Card}
 use Rattle.task.specs.declared.Task.{Task}
 use Rattle.task.specs.declared.list.Tasks.{Tasks}
 use Rattle.task.specs.Limits.{mostTasks}
@@ -26,16 +27,16 @@ use Rattle.answer.specs.Promise.{IsOverloaded, Permitted, Promised}
 use Rattle.answer.proofs.Verdicts.{everybodys-no}
 use Rattle.state.specs.Engine.{Ready}
 
-module _ (p : Policy) (l : List Task) (startup cycle : List ℕ) where
-  pub refused : (a : Admission) (r : Refusal) (i : ℕ) → a ≡ Refused r i → Admits l (length startup) (length cycle) a →
-      Promised p l startup cycle (Answer.Refused r i) startup cycle
+module _ (card : Card) (p : Policy) (l : List Task) (startup cycle : List ℕ) where
+  pub refused : (a : Admission) (r : Refusal) (i : ℕ) → a ≡ Refused r i → Admits card l (length startup) (length cycle) a →
+      Promised card p l startup cycle (Answer.Refused r i) startup cycle
   refused a r i e x = record {
     demand-2 = record { first-refusal = rw e at x; buffers = record { startup-kept = refl; cycle-kept = refl } };
     demand-3 = tt;
   }
 
-  module _ (m : Measures) (ok : firstRefusal l (length startup) (length cycle) ≡ sound) (e : m ≡ measuresOf l) where
-    pub overloaded : m .hyperperiod < m .load → IsOverloaded p l startup cycle (m .load) (m .hyperperiod) startup cycle
+  module _ (m : Measures) (ok : firstRefusal card l (length startup) (length cycle) ≡ sound) (e : m ≡ measuresOf l) where
+    pub overloaded : m .hyperperiod < m .load → IsOverloaded card p l startup cycle (m .load) (m .hyperperiod) startup cycle
     overloaded h =
         let H = ap (λ x. x .hyperperiod) e in
         let L = ap (λ x. x .load) e in
@@ -47,7 +48,7 @@ module _ (p : Policy) (l : List Task) (startup cycle : List ℕ) where
           buffers = record { startup-kept = refl; cycle-kept = refl };
         }
 
-    pub ready : m .load ≤ m .hyperperiod → Ready l startup cycle (m .latest) (m .hyperperiod) (m .load)
+    pub ready : m .load ≤ m .hyperperiod → Ready card l startup cycle (m .latest) (m .hyperperiod) (m .load)
     ready h = record {
       no-refusal = ok;
       is-latest = ap (λ x. x .latest) e;
@@ -60,25 +61,26 @@ module _ (p : Policy) (l : List Task) (startup cycle : List ℕ) where
 first-tasks : (ts : Tasks) (l : List Task) → Holds ts l → length l ≤ mostTasks → take (ts .count) (ts .items) ≡ l
 first-tasks ts l h few = h .begins ∙ take-all mostTasks l few
 
-module _ (ts : Tasks) (startup cycle : ℕ) (a : Admission) (m : Measures) (e : a ≡ Sound m)
-    (x : (l : List Task) → Holds ts l → Admits l startup cycle a) where
-  is-sound : (l : List Task) → Holds ts l → IsSound l startup cycle m
+module _ (card : Card) (ts : Tasks) (startup cycle : ℕ) (a : Admission) (m : Measures) (e : a ≡ Sound m)
+    (x : (l : List Task) → Holds ts l → Admits card l startup cycle a) where
+  is-sound : (l : List Task) → Holds ts l → IsSound card l startup cycle m
   is-sound l h = rw e at (x l h)
 
   pub few : (l : List Task) → Holds ts l → length l ≤ mostTasks
-  few l h = passed l startup cycle (is-sound l h .no-refusal) .few
+  few l h = passed card l startup cycle (is-sound l h .no-refusal) .few
 
   -- the first tasks themselves are a list that it holds
   pub first-sound : length (ts .items) ≡ mostTasks →
-      (ts .count ≤ mostTasks) × (firstRefusal (take (ts .count) (ts .items)) startup cycle ≡ sound) × (m ≡ measuresOf (take (ts .count) (ts .items)))
+      (ts .count ≤ mostTasks) × (firstRefusal card (take (ts .count) (ts .items)) startup cycle ≡ sound) × (m ≡ measuresOf (take (ts .count) (ts .items)))
   first-sound full =
       let h = held ts full in
       let f = few _ h in
       let g = first-tasks ts _ h f in
       (omega (arith, h .counted), rw g (is-sound _ h .no-refusal), rw g (is-sound _ h .measured))
 
-  pub promised : (p : Policy) (s c s′ c′ : List ℕ) (r : Answer) →
-      Permitted p (take (ts .count) (ts .items)) s c (row r) s′ c′ → (l : List Task) → Holds ts l → Promised p l s c r s′ c′
-  promised p s c s′ c′ r y l h =
-      let z : Permitted p l s c (row r) s′ c′ = rw (first-tasks ts l h (few l h)) at y in
-      record { demand-2 = z; demand-3 = everybodys-no p l s c s′ c′ (row r) z }
+  pub promised : length (ts .items) ≡ mostTasks → (p : Policy) (s c s′ c′ : List ℕ) (r : Answer) →
+      (firstRefusal card (take (ts .count) (ts .items)) startup cycle ≡ sound → Permitted card p (take (ts .count) (ts .items)) s c (row r) s′ c′) →
+      (l : List Task) → Holds ts l → Promised card p l s c r s′ c′
+  promised full p s c s′ c′ r y l h =
+      let z : Permitted card p l s c (row r) s′ c′ = rw (first-tasks ts l h (few l h)) at (y (first-sound full .1)) in
+      record { demand-2 = z; demand-3 = everybodys-no card p l s c s′ c′ (row r) z }

@@ -4,6 +4,7 @@ ghost use mathlib.Core.List.{List};
 ghost use Prim.Native.Nat.{_≤_};
 ghost use lib.ListN.{length, take};
 ghost use Rattle.refusal.specs.Refusals.{sound};
+ghost use Rattle.card.specs.declared.Card.{Card};
 ghost use Rattle.task.specs.declared.Task.{Task};
 ghost use Rattle.task.specs.Limits.{mostTasks};
 ghost use Rattle.task.specs.Arrays.{Holds};
@@ -17,6 +18,7 @@ use crate::tables::tables;
 use admission::Admission;
 use admission::Measures;
 use answer::Answer;
+use card::Card;
 use schedule::Policy;
 use task::Task;
 use task::list::Tasks;
@@ -24,21 +26,22 @@ use task::list::Tasks;
 pub(crate) fn checked(
     items: [Task; Task::MOST],
     count: usize,
+    card: Card,
     policy: Policy,
     startup: &mut [u8],
     cycle: &mut [u8],
 ) -> Answer
-    ensures { λ r. ⌜ ((l : List Task) → Holds (record { items = items; count = count }) l → Promised policy l (now (startup .entry)) (now (cycle .entry)) r (now (startup .exit)) (now (cycle .exit))) ⌝ }
+    ensures { λ r. ⌜ ((l : List Task) → Holds (record { items = items; count = count }) l → Promised card policy l (now (startup .entry)) (now (cycle .entry)) r (now (startup .exit)) (now (cycle .exit))) ⌝ }
 {
     let list = Tasks { items, count };
-    let admitted = admission::admit(list, startup.len(), cycle.len());
+    let admitted = admission::admit(list, card, startup.len(), cycle.len());
     match admitted {
         Admission::Refused(why, task) => Answer::Refused(why, task),
         Admission::Sound(measures) => judged(items, count, policy, measures, startup, cycle),
     }
 }
 
-// A list that is not refused: overloaded, or what its schedule says.
+// A list that is not refused: overloaded, or what its schedule says. That is the same on every card that does not refuse it.
 fn judged(
     items: [Task; Task::MOST],
     n: usize,
@@ -48,9 +51,9 @@ fn judged(
     cycle: &mut [u8],
 ) -> Answer
     requires { ⌜ n ≤ mostTasks ⌝ }
-    requires { ⌜ firstRefusal (take n items) (length (now startup)) (length (now cycle)) ≡ sound ⌝ }
+    requires { ⌜ ((c : Card) × (firstRefusal c (take n items) (length (now startup)) (length (now cycle)) ≡ sound)) ⌝ }
     requires { ⌜ measures ≡ measuresOf (take n items) ⌝ }
-    ensures { λ r. ⌜ Permitted policy (take n items) (now (startup .entry)) (now (cycle .entry)) (row r) (now (startup .exit)) (now (cycle .exit)) ⌝ }
+    ensures { λ r. ⌜ ((c : Card) → firstRefusal c (take n items) (length (now (startup .entry))) (length (now (cycle .entry))) ≡ sound → Permitted c policy (take n items) (now (startup .entry)) (now (cycle .entry)) (row r) (now (startup .exit)) (now (cycle .exit))) ⌝ }
 {
     let load = measures.load;
     let hyperperiod = measures.hyperperiod;
@@ -70,10 +73,10 @@ fn scheduled(
     cycle: &mut [u8],
 ) -> Answer
     requires { ⌜ n ≤ mostTasks ⌝ }
-    requires { ⌜ firstRefusal (take n items) (length (now startup)) (length (now cycle)) ≡ sound ⌝ }
+    requires { ⌜ ((c : Card) × (firstRefusal c (take n items) (length (now startup)) (length (now cycle)) ≡ sound)) ⌝ }
     requires { ⌜ measures ≡ measuresOf (take n items) ⌝ }
     requires { ⌜ measures .load ≤ measures .hyperperiod ⌝ }
-    ensures { λ r. ⌜ Permitted policy (take n items) (now (startup .entry)) (now (cycle .entry)) (row r) (now (startup .exit)) (now (cycle .exit)) ⌝ }
+    ensures { λ r. ⌜ ((c : Card) → firstRefusal c (take n items) (length (now (startup .entry))) (length (now (cycle .entry))) ≡ sound → Permitted c policy (take n items) (now (startup .entry)) (now (cycle .entry)) (row r) (now (startup .exit)) (now (cycle .exit))) ⌝ }
 {
     let mut run = [0usize; Task::MOST];
     let mut deadline = [0usize; Task::MOST];

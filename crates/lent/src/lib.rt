@@ -3,15 +3,22 @@ ghost use mathlib.Core.Path.{_≡_};
 ghost use Rattle.task.specs.Arrays.{arrayOf};
 ghost use Rattle.answer.specs.Promise.{Promised};
 use answer::Answer;
+use card::Card;
 use schedule::Policy;
 use task::Task;
 use task::list::Tasks;
 
 // As `checker::check`, for a lent list of any length.
-pub fn check(list: &[Task], policy: Policy, startup: &mut [u8], cycle: &mut [u8]) -> Answer
-    ensures { λ r. ⌜ Promised policy (now (list .entry)) (now (startup .entry)) (now (cycle .entry)) r (now (startup .exit)) (now (cycle .exit)) ⌝ }
+pub fn check(
+    list: &[Task],
+    card: Card,
+    policy: Policy,
+    startup: &mut [u8],
+    cycle: &mut [u8],
+) -> Answer
+    ensures { λ r. ⌜ Promised card policy (now (list .entry)) (now (startup .entry)) (now (cycle .entry)) r (now (startup .exit)) (now (cycle .exit)) ⌝ }
 {
-    checker::check(load(list), policy, startup, cycle)
+    checker::check(load(list), card, policy, startup, cycle)
 }
 
 // The checker's own copy. No more tasks are read than it has room for.

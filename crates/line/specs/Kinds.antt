@@ -1,4 +1,4 @@
--- The two kinds of lines: a policy, and a task. Request #101.
+-- The three kinds of lines: a policy, a card, and a task. Requests #101 and #105.
 use mathlib.Core.Bool.{Bool, true, false}
 use mathlib.Core.List.{List, [], _∷_}
 use Prim.Native.Nat.{ℕ}
@@ -31,6 +31,13 @@ firstOf line =
     (firstIf (same line (policyText RateMonotonic)) RateMonotonic
     (firstIf (same line (policyText DeadlineMonotonic)) DeadlineMonotonic
     (firstIf (same line (policyText Edf)) Edf noPolicyLine)))
+
+-- the line that a list for a small card has after its policy
+abbrev pub cardText : List ℕ
+cardText = bytes "card small"
+
+abbrev pub isCard : List ℕ → Bool
+isCard line = same line cardText
 
 abbrev pub lineIf : Bool → Line → Line
 lineIf true line = line

@@ -1,10 +1,10 @@
-// A line of a text: its fields, its numbers, and the two kinds of lines. Request #101.
+// A line of a text: its fields, its numbers, and the three kinds of lines. Requests #101 and #105.
 pub mod field;
 pub mod number;
 
 ghost use mathlib.Core.Path.{_≡_};
 ghost use Rattle.line.specs.Lines.{largestNumber};
-ghost use Rattle.line.specs.Kinds.{firstOf, lineOf};
+ghost use Rattle.line.specs.Kinds.{firstOf, isCard, lineOf};
 use crate::field::Field;
 use crate::field::SPACE;
 use crate::field::before;
@@ -43,6 +43,13 @@ pub fn policy_of(line: &[u8]) -> First
         return First::Policy(Policy::Edf);
     }
     First::Unread
+}
+
+// `card small`: a wide card has no line.
+pub fn is_card(line: &[u8]) -> bool
+    ensures { λ r. ⌜ r ≡ isCard (now (line .entry)) ⌝ }
+{
+    same(line, b"card small")
 }
 
 // `task` and four numbers, and no more.

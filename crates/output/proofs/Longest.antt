@@ -6,6 +6,7 @@ use native.Mathlib.Omega.{arith}
 use native.Mathlib.Nat.{le-trans}
 use lib.ListN.{length, length-append}
 use borrow.Author.Tests.{le-ltb}
+use Rattle.card.specs.declared.Card.{Card}
 use Rattle.task.specs.declared.Task.{Task}
 use Rattle.task.proofs.Refusing.{Passed, passed}
 use Rattle.schedule.specs.declared.Policy.{Policy}
@@ -31,28 +32,28 @@ one-fits name k a h = simp length-append (omega (arith, decimal-length k a h))
 two-fits : (name : List ℕ) (k m a b : ℕ) → a < 10 ^ suc k → b < 10 ^ suc m → length (two name a b) ≤ length name + suc k + suc m + 3
 two-fits name k m a b h q = simp length-append (omega (arith, decimal-length k a h, decimal-length m b q))
 
-module _ (p : Policy) (l : List Task) (startup cycle s c : List ℕ) (n : length startup ≡ longestStartup) (m : length cycle ≡ longestCycle) where
-  row-fits : (r : Row) → Permitted p l startup cycle r s c → length (report r s c) ≤ longestOutput
+module _ (card : Card) (p : Policy) (l : List Task) (startup cycle s c : List ℕ) (n : length startup ≡ longestStartup) (m : length cycle ≡ longestCycle) where
+  row-fits : (r : Row) → Permitted card p l startup cycle r s c → length (report r s c) ≤ longestOutput
   row-fits (refused number i) x =
-      let limit = permitted-limit p l startup cycle n m number i s c x in
-      omega (arith, two-fits (bytes "refused") 0 1 number i (omega (arith, limit .no-buffer)) (omega (arith, limit .its-task)))
+      let limit = permitted-limit card p l startup cycle n m number i s c x in
+      omega (arith, two-fits (bytes "refused") 0 1 number i (omega (arith, limit .a-digit)) (omega (arith, limit .its-task)))
   row-fits (overloaded a b) x =
-      let ok : Passed l (length startup) (length cycle) = passed l (length startup) (length cycle) (x .no-refusal) in
+      let ok : Passed l (length startup) (length cycle) = passed card l (length startup) (length cycle) (x .no-refusal) in
       omega (arith, two-fits (bytes "overloaded") 5 4 a b (omega (arith, x .is-load, load-most ok)) (omega (arith, x .is-hyperperiod, ok .short)))
   row-fits (missed i d) x =
-      let ok : Passed l (length startup) (length cycle) = passed l (length startup) (length cycle) (x .no-refusal) in
+      let ok : Passed l (length startup) (length cycle) = passed card l (length startup) (length cycle) (x .no-refusal) in
       omega (
         arith,
         two-fits (bytes "missed") 1 4 i d
             (omega (arith, x .first-miss .miss .listed, ok .few))
-            (omega (arith, missed-by p l startup cycle s c i d x, latest-early ok, ok .short)),
+            (omega (arith, missed-by card p l startup cycle s c i d x, latest-early ok, ok .short)),
       )
-  row-fits (feasible q) x = plan-fits p l startup cycle s c n m q x
+  row-fits (feasible q) x = plan-fits card p l startup cycle s c n m q x
 
-reported-fits : (p : Policy) (l : List Task) (output : List ℕ) → Reported p l output → length output ≤ longestOutput
-reported-fits p l output x =
+reported-fits : (card : Card) (p : Policy) (l : List Task) (output : List ℕ) → Reported card p l output → length output ≤ longestOutput
+reported-fits card p l output x =
     rw (x .is-report)
-    (row-fits p l (clear longestStartup) (clear longestCycle) (x .startup) (x .cycle) (clear-length longestStartup) (clear-length longestCycle)
+    (row-fits card p l (clear longestStartup) (clear longestCycle) (x .startup) (x .cycle) (clear-length longestStartup) (clear-length longestCycle)
     (row (x .answer)) (x .promised .demand-2))
 
 pub output-fits : (input output : List ℕ) → Output (reading input) output → length output ≤ longestOutput
@@ -60,7 +61,7 @@ output-fits input output = go (reading input) refl
   where
     go : (r : Reading) → reading input ≡ r → Output r output → length output ≤ longestOutput
     go (unread n) e x = rw x (omega (arith, one-fits (bytes "unread") 3 n (omega (arith, unread-most input n e))))
-    go (listed p l) e x = reported-fits p l output x
+    go (listed card p l) e x = reported-fits card p l output x
 
 -- a buffer of that length gets every output whole
 pub printed-whole : (input buffer : List ℕ) (r : Written) (left : List ℕ) → longestOutput ≤ length buffer

@@ -2,6 +2,7 @@
 use mathlib.Core.Path.{_≡_, sym, ap, ap₂, _∙_}
 use mathlib.Core.List.{List}
 use Prim.Native.Nat.{ℕ}
+use Rattle.card.specs.declared.Card.{Card}
 use Rattle.task.specs.declared.Task.{Task}
 use Rattle.schedule.specs.declared.Policy.{Policy}
 use Rattle.answer.specs.declared.Answer.{Answer}
@@ -13,9 +14,9 @@ use Rattle.text.specs.Reading.{Reading, unread, listed}
 use Rattle.report.specs.Report.{report}
 use Rattle.output.specs.Output.{longestStartup, longestCycle, clear, Reported, Output, Printed}
 
-reported-pinned : (p : Policy) (l : List Task) (a b : List ℕ) → Reported p l a → Reported p l b → a ≡ b
-reported-pinned p l a b x y =
-    let e = answer-pinned p l (clear longestStartup) (clear longestCycle) (x .answer) (y .answer) (x .startup) (x .cycle) (y .startup) (y .cycle)
+reported-pinned : (card : Card) (p : Policy) (l : List Task) (a b : List ℕ) → Reported card p l a → Reported card p l b → a ≡ b
+reported-pinned card p l a b x y =
+    let e = answer-pinned card p l (clear longestStartup) (clear longestCycle) (x .answer) (y .answer) (x .startup) (x .cycle) (y .startup) (y .cycle)
     (x .promised) (y .promised) in
     x .is-report
     ∙ ap (λ (o : Answer). report (row o) (x .startup) (x .cycle)) (e .0)
@@ -24,7 +25,7 @@ reported-pinned p l a b x y =
 
 pub output-pinned : (r : Reading) (a b : List ℕ) → Output r a → Output r b → a ≡ b
 output-pinned (unread n) a b x y = x ∙ sym y
-output-pinned (listed p l) a b x y = reported-pinned p l a b x y
+output-pinned (listed card p l) a b x y = reported-pinned card p l a b x y
 
 pub printed-pinned : (reading : Reading) (buffer : List ℕ) (r r′ : Written) (left left′ : List ℕ) →
     Printed reading buffer r left → Printed reading buffer r′ left′ → (r ≡ r′) × (left ≡ left′)

@@ -4,6 +4,7 @@ use mathlib.Core.List.{List}
 use Prim.Native.Nat.{ℕ, suc, _+_, _^_, _≤_, _<_}
 use native.Mathlib.Omega.{arith}
 use lib.ListN.{length, take, length-append}
+use Rattle.card.specs.declared.Card.{Card}
 use Rattle.task.specs.declared.Task.{Task}
 use Rattle.task.specs.Tasks.{latest, hyperperiod}
 use Rattle.task.proofs.Refusing.{Passed, passed}
@@ -43,10 +44,10 @@ plan-length q first again x =
       decimal-length 4 (q .«cycle_preemptions») (x .preemptions-five .1),
     ))
 
-module _ (p : Policy) (l : List Task) (startup cycle s c : List ℕ) (n : length startup ≡ longestStartup) (m : length cycle ≡ longestCycle)
-    (q : Plan) (x : Permitted p l startup cycle (feasible q) s c) where
+module _ (card : Card) (p : Policy) (l : List Task) (startup cycle s c : List ℕ) (n : length startup ≡ longestStartup) (m : length cycle ≡ longestCycle)
+    (q : Plan) (x : Permitted card p l startup cycle (feasible q) s c) where
   ok : Passed l (length startup) (length cycle)
-  ok = passed l (length startup) (length cycle) (x .no-refusal)
+  ok = passed card l (length startup) (length cycle) (x .no-refusal)
 
   abbrev lead : ℕ
   lead = latest l + hyperperiod l

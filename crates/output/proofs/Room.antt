@@ -4,6 +4,7 @@ use mathlib.Core.List.{List}
 use Prim.Native.Nat.{ℕ}
 use native.Mathlib.Omega.{arith}
 use lib.ListN.{length, length-replicate}
+use Rattle.card.specs.declared.Card.{Card}
 use Rattle.task.specs.declared.Task.{Task}
 use Rattle.schedule.specs.declared.Policy.{Policy}
 use Rattle.schedule.specs.Job.{idle}
@@ -18,17 +19,17 @@ use Rattle.output.proofs.Refusing.{Limit, refused-limit}
 pub clear-length : (n : ℕ) → length (clear n) ≡ n
 clear-length n = length-replicate n (byteOf idle)
 
-module _ (p : Policy) (l : List Task) (startup cycle : List ℕ) (n : length startup ≡ longestStartup) (m : length cycle ≡ longestCycle) where
-  pub permitted-limit : (number i : ℕ) (s c : List ℕ) → Permitted p l startup cycle (refused number i) s c → Limit number i
-  permitted-limit number i s c x = refused-limit l (length startup) (length cycle) (omega arith) (omega arith) number i (x .first-refusal)
+module _ (card : Card) (p : Policy) (l : List Task) (startup cycle : List ℕ) (n : length startup ≡ longestStartup) (m : length cycle ≡ longestCycle) where
+  pub permitted-limit : (number i : ℕ) (s c : List ℕ) → Permitted card p l startup cycle (refused number i) s c → Limit number i
+  permitted-limit number i s c x = refused-limit card l (length startup) (length cycle) (omega arith) (omega arith) number i (x .first-refusal)
 
-module _ (p : Policy) (l : List Task) (answer : Answer) (s c : List ℕ)
-    (x : Promised p l (clear longestStartup) (clear longestCycle) answer s c) where
-  permitted : (r : Row) → row answer ≡ r → Permitted p l (clear longestStartup) (clear longestCycle) r s c
-  permitted r e = subst (λ (r : Row). Permitted p l (clear longestStartup) (clear longestCycle) r s c) e (x .demand-2)
+module _ (card : Card) (p : Policy) (l : List Task) (answer : Answer) (s c : List ℕ)
+    (x : Promised card p l (clear longestStartup) (clear longestCycle) answer s c) where
+  permitted : (r : Row) → row answer ≡ r → Permitted card p l (clear longestStartup) (clear longestCycle) r s c
+  permitted r e = subst (λ (r : Row). Permitted card p l (clear longestStartup) (clear longestCycle) r s c) e (x .demand-2)
 
   pub never-short : (n i : ℕ) → row answer ≡ refused n i → (n ≡ 7 → ⊥) × (n ≡ 8 → ⊥)
   never-short n i e =
       let y : Limit n i =
-      permitted-limit p l (clear longestStartup) (clear longestCycle) (clear-length longestStartup) (clear-length longestCycle) n i s c (permitted (refused n i) e) in
-      (λ e. omega arith, λ e. omega arith)
+      permitted-limit card p l (clear longestStartup) (clear longestCycle) (clear-length longestStartup) (clear-length longestCycle) n i s c (permitted (refused n i) e) in
+      (y .no-startup, y .no-cycle)

@@ -2,6 +2,7 @@
 use mathlib.Core.Path.{_≡_, sym, _∙_, ap}
 use mathlib.Core.List.{List}
 use Prim.Native.Nat.{ℕ}
+use Rattle.card.specs.declared.Card.{Card}
 use Rattle.task.specs.declared.Task.{Task}
 use Rattle.task.specs.Arrays.{Holds}
 use Rattle.task.proofs.Copied.{held-array}
@@ -14,10 +15,11 @@ use Rattle.line.proofs.Parts.{never}
 
 pub told-unread : (t : Contents) (r : Reading) (n : ℕ) → t ≡ held r → t .found ≡ Unread n → r ≡ unread n
 told-unread t (unread m) n e f = let g : Unread m ≡ Unread n = sym (ap (λ (c : Contents). c .found) e) ∙ f in cc
-told-unread t (listed p l) n e f = let g : Listed p ≡ Unread n = sym (ap (λ (c : Contents). c .found) e) ∙ f in never (cc)
+told-unread t (listed k p l) n e f = let g : Listed k p ≡ Unread n = sym (ap (λ (c : Contents). c .found) e) ∙ f in never (cc)
 
-pub told-listed : (t : Contents) (r : Reading) (p : Policy) → t ≡ held r → t .found ≡ Listed p → (l : List Task) × (r ≡ listed p l) × Holds (t .tasks) l
-told-listed t (unread m) p e f = let g : Unread m ≡ Listed p = sym (ap (λ (c : Contents). c .found) e) ∙ f in never (cc)
-told-listed t (listed q l) p e f =
-    let g : Listed q ≡ Listed p = sym (ap (λ (c : Contents). c .found) e) ∙ f in
+pub told-listed : (t : Contents) (r : Reading) (k : Card) (p : Policy) → t ≡ held r → t .found ≡ Listed k p →
+    (l : List Task) × (r ≡ listed k p l) × Holds (t .tasks) l
+told-listed t (unread m) k p e f = let g : Unread m ≡ Listed k p = sym (ap (λ (c : Contents). c .found) e) ∙ f in never (cc)
+told-listed t (listed j q l) k p e f =
+    let g : Listed j q ≡ Listed k p = sym (ap (λ (c : Contents). c .found) e) ∙ f in
     (l, (cc), rw e (held-array l))

@@ -3,6 +3,7 @@ use mathlib.Core.Path.{_≡_}
 use mathlib.Core.List.{List}
 use Prim.Native.Nat.{ℕ, _+_, _-_, _*_}
 use lib.ListN.{length, replicate}
+use Rattle.card.specs.declared.Card.{Card}
 use Rattle.task.specs.declared.Task.{Task}
 use Rattle.task.specs.Limits.{mostTasks, latestOffset, longestHyperperiod}
 use Rattle.schedule.specs.declared.Policy.{Policy}
@@ -27,18 +28,18 @@ longestCycle = longestHyperperiod
 abbrev pub clear : ℕ → List ℕ
 clear n = replicate n (byteOf idle)
 
--- the report of what the checker promises for a policy and a list
-pub record Reported (p : Policy) (l : List Task) (output : List ℕ) : Type 0 where
+-- the report of what the checker promises for a card, a policy and a list
+pub record Reported (card : Card) (p : Policy) (l : List Task) (output : List ℕ) : Type 0 where
   pub answer : Answer
   pub startup : List ℕ
   pub cycle : List ℕ
-  pub promised : Promised p l (clear longestStartup) (clear longestCycle) answer startup cycle
+  pub promised : Promised card p l (clear longestStartup) (clear longestCycle) answer startup cycle
   pub is-report : output ≡ report (row answer) startup cycle
 
 -- a line that can't be read is said by its number
 abbrev pub Output : Reading → List ℕ → Type 0
 Output (unread n) output = output ≡ one (bytes "unread") n
-Output (listed p l) output = Reported p l output
+Output (listed card p l) output = Reported card p l output
 
 -- the output for a reading, into a lent buffer
 pub record Printed (reading : Reading) (buffer : List ℕ) (r : Written) (left : List ℕ) : Type 0 where

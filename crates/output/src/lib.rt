@@ -6,6 +6,7 @@ ghost use Rattle.task.specs.Arrays.{Holds};
 ghost use Rattle.text.specs.Reading.{reading, unread, listed};
 ghost use Rattle.output.specs.Output.{Printed, longestStartup, longestCycle, longestOutput};
 use answer::IDLE;
+use card::Card;
 use decimal::Written;
 use report::lay;
 use schedule::Policy;
@@ -30,16 +31,16 @@ pub fn answer(input: &[u8], out: &mut [u8]) -> Written
     let found = read.found;
     match found {
         Found::Unread(line) => unread(line, out),
-        Found::Listed(policy) => checked(tasks, policy, out),
+        Found::Listed(card, policy) => checked(tasks, card, policy, out),
     }
 }
 
-fn checked(list: Tasks, policy: Policy, out: &mut [u8]) -> Written
-    ensures { λ r. ⌜ ((l : List Task) → Holds list l → Printed (listed policy l) (now (out .entry)) r (now (out .exit))) ⌝ }
+fn checked(list: Tasks, card: Card, policy: Policy, out: &mut [u8]) -> Written
+    ensures { λ r. ⌜ ((l : List Task) → Holds list l → Printed (listed card policy l) (now (out .entry)) r (now (out .exit))) ⌝ }
 {
     let mut startup = [IDLE; STARTUP];
     let mut cycle = [IDLE; CYCLE];
-    let said = checker::check(list, policy, &mut startup, &mut cycle);
+    let said = checker::check(list, card, policy, &mut startup, &mut cycle);
     report::report(said, &startup, &cycle, out)
 }
 

@@ -4,14 +4,14 @@ use mathlib.Core.List.{List, [], _∷_}
 use Prim.Native.Nat.{ℕ, _-_}
 use lib.ListN.{getD}
 use Rattle.refusal.specs.declared.Refusal.{Refusal}
-use Rattle.refusal.specs.declared.Refusal.the-variants.{Count, Period, Run, Deadline, Offset, Hyperperiod, Startup, Cycle}
+use Rattle.refusal.specs.declared.Refusal.the-variants.{Count, Period, Run, Deadline, Offset, Hyperperiod, Startup, Cycle, Timer}
 use Rattle.refusal.specs.declared.Check.{Check}
 use Rattle.refusal.specs.declared.Check.the-variants as Check
 use Rattle.refusal.specs.Refusals.{numberOf, Finding, sound, refused, findingOf}
 
 -- a number says which refusal it was
 refusals : List Refusal
-refusals = Count ∷ Period ∷ Run ∷ Deadline ∷ Offset ∷ Hyperperiod ∷ Startup ∷ Cycle ∷ []
+refusals = Count ∷ Period ∷ Run ∷ Deadline ∷ Offset ∷ Hyperperiod ∷ Startup ∷ Cycle ∷ Timer ∷ []
 
 pub refusalOf : ℕ → Refusal
 refusalOf number = getD refusals (number - 1) Count
@@ -26,6 +26,7 @@ number-back Offset = refl
 number-back Hyperperiod = refl
 number-back Startup = refl
 number-back Cycle = refl
+number-back Timer = refl
 
 pub number-once : (r s : Refusal) → numberOf r ≡ numberOf s → r ≡ s
 number-once r s e = sym (number-back r) ∙ ap refusalOf e ∙ number-back s

@@ -1,8 +1,8 @@
--- Why a list or a buffer is refused: the paper's numbers, and that the first refusal that applies is given. Document 01, "What comes back".
+-- Why a list or a buffer is refused: the paper's numbers, and that the first refusal that applies is given. Document 01, "What comes back", and request #105.
 use mathlib.Core.Bool.{Bool, true, false}
 use Prim.Native.Nat.{ℕ}
 use Rattle.refusal.specs.declared.Refusal.{Refusal}
-use Rattle.refusal.specs.declared.Refusal.the-variants.{Count, Period, Run, Deadline, Offset, Hyperperiod, Startup, Cycle}
+use Rattle.refusal.specs.declared.Refusal.the-variants.{Count, Period, Run, Deadline, Offset, Hyperperiod, Startup, Cycle, Timer}
 use Rattle.refusal.specs.declared.Check.{Check}
 use Rattle.refusal.specs.declared.Check.the-variants.{Sound, Refused}
 
@@ -17,6 +17,7 @@ numberOf Offset = 5
 numberOf Hyperperiod = 6
 numberOf Startup = 7
 numberOf Cycle = 8
+numberOf Timer = 9
 
 -- no refusal, or the paper's number and task
 pub data Finding : Type 0 where

@@ -1,4 +1,4 @@
-// Why a list or a buffer is refused. Document 01, "What comes back".
+// Why a list or a buffer is refused. Document 01, "What comes back", and request #105.
 ghost use mathlib.Core.Path.{_≡_};
 ghost use Rattle.refusal.specs.Refusals.{numberOf};
 
@@ -11,6 +11,7 @@ pub enum Refusal {
     Hyperperiod,
     Startup,
     Cycle,
+    Timer,
 }
 
 // What a check finds: nothing, or why it refuses and which task.
@@ -33,6 +34,7 @@ impl Refusal {
             Refusal::Hyperperiod => 6,
             Refusal::Startup => 7,
             Refusal::Cycle => 8,
+            Refusal::Timer => 9,
         }
     }
 }

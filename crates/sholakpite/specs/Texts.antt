@@ -10,7 +10,7 @@ use Rattle.text.specs.Reading.{reading}
 use Rattle.writer.specs.declared.Saved.{Saved}
 use Rattle.writer.specs.Writing.{SavedAs, savedNumber}
 use Rattle.output.specs.Output.{Printed}
-use Rattle.words.specs.Words.{policyOf, tasksOf, lastPolicy, ragged, notUnderstood}
+use Rattle.words.specs.Words.{cardOf, policyOf, tasksOf, lastCard, lastPolicy, ragged, notUnderstood}
 
 -- the output's length, or 0 for a buffer that is shorter: no output is empty (`output-full`)
 abbrev pub lengthOf : Written → ℕ
@@ -23,15 +23,18 @@ pub record AnsweredText (input buffer : List ℕ) (n : ℕ) (left : List ℕ) : 
   pub printed : Printed (reading input) buffer written left
   pub is-length : n ≡ lengthOf written
 
-module _ (policy : ℕ) (list buffer : List ℕ) where
-  -- 4: the policy is above 3, or the words are not a multiple of four
+-- the words are not a multiple of four, the card is above 1, or the policy is above 3
+abbrev pub misreadText : ℕ → ℕ → List ℕ → Bool
+misreadText card policy list = ragged list || ltb lastCard card || ltb lastPolicy policy
+
+module _ (card policy : ℕ) (list buffer : List ℕ) where
   pub record NotUnderstood (n : ℕ) (left : List ℕ) : Type 0 where
     pub is-code : n ≡ notUnderstood
     pub kept : left ≡ buffer
 
   pub record Understood (n : ℕ) (left : List ℕ) : Type 0 where
     pub saved : Saved
-    pub saved-as : SavedAs (policyOf policy) (tasksOf list) buffer saved left
+    pub saved-as : SavedAs (cardOf card) (policyOf policy) (tasksOf list) buffer saved left
     pub is-number : n ≡ savedNumber saved
 
   abbrev pub eitherText : Bool → ℕ → List ℕ → Type 0
@@ -39,5 +42,5 @@ module _ (policy : ℕ) (list buffer : List ℕ) where
   eitherText false n left = Understood n left
 
 -- the text's length or 13, or 4 for a call that is not understood
-abbrev pub WrittenText : ℕ → List ℕ → List ℕ → ℕ → List ℕ → Type 0
-WrittenText policy list buffer = eitherText policy list buffer (ragged list || ltb lastPolicy policy)
+abbrev pub WrittenText : ℕ → ℕ → List ℕ → List ℕ → ℕ → List ℕ → Type 0
+WrittenText card policy list buffer = eitherText card policy list buffer (misreadText card policy list)

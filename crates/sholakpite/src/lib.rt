@@ -2,14 +2,33 @@
 mod logs;
 mod texts;
 
-ghost use Rattle.words.specs.Words.{Answered, AnsweredWords};
+ghost use Rattle.words.specs.Words.{Answered, AnsweredWords, wideCard};
 use task::Task;
 use words::NOT_UNDERSTOOD;
 use words::answered;
 use words::list;
 use words::list::tasks_of;
+use words::on_wide;
 
-// Checks a list of words, O C D T for each task, under a policy by number, and gives the answer's code; its values go into `row`.
+// Checks a list of words, O C D T for each task, for a card and under a policy, both by number, and gives the answer's code; its values go into `row`.
+#[no_mangle]
+pub extern "C" fn sholakpite_check_card(
+    card: u64,
+    policy: u64,
+    list: &[u64],
+    startup: &mut [u8],
+    cycle: &mut [u8],
+    row: &mut [u64],
+) -> u64
+    ensures { λ r. ⌜ AnsweredWords card policy (now (list .entry)) (now (startup .entry)) (now (cycle .entry)) (now (row .entry)) r (now (startup .exit)) (now (cycle .exit)) (now (row .exit)) ⌝ }
+{
+    if list.len() % list::EACH != 0 {
+        return NOT_UNDERSTOOD;
+    }
+    answered(tasks_of(list), card, policy, startup, cycle, row)
+}
+
+// The same, for a wide card.
 #[no_mangle]
 pub extern "C" fn sholakpite_check(
     policy: u64,
@@ -18,15 +37,27 @@ pub extern "C" fn sholakpite_check(
     cycle: &mut [u8],
     row: &mut [u64],
 ) -> u64
-    ensures { λ r. ⌜ AnsweredWords policy (now (list .entry)) (now (startup .entry)) (now (cycle .entry)) (now (row .entry)) r (now (startup .exit)) (now (cycle .exit)) (now (row .exit)) ⌝ }
+    ensures { λ r. ⌜ AnsweredWords wideCard policy (now (list .entry)) (now (startup .entry)) (now (cycle .entry)) (now (row .entry)) r (now (startup .exit)) (now (cycle .exit)) (now (row .exit)) ⌝ }
 {
-    if list.len() % list::EACH != 0 {
-        return NOT_UNDERSTOOD;
-    }
-    answered(tasks_of(list), policy, startup, cycle, row)
+    sholakpite_check_card(list::WIDE, policy, list, startup, cycle, row)
 }
 
-// The same, for a lent list of task structs.
+// For a lent list of task structs.
+#[no_mangle]
+pub extern "C" fn sholakpite_check_tasks_card(
+    card: u64,
+    policy: u64,
+    list: &[Task],
+    startup: &mut [u8],
+    cycle: &mut [u8],
+    row: &mut [u64],
+) -> u64
+    ensures { λ r. ⌜ Answered card policy (now (list .entry)) (now (startup .entry)) (now (cycle .entry)) (now (row .entry)) r (now (startup .exit)) (now (cycle .exit)) (now (row .exit)) ⌝ }
+{
+    answered(lent::load(list), card, policy, startup, cycle, row)
+}
+
+// For a lent list of task structs, and a wide card.
 #[no_mangle]
 pub extern "C" fn sholakpite_check_tasks(
     policy: u64,
@@ -35,7 +66,7 @@ pub extern "C" fn sholakpite_check_tasks(
     cycle: &mut [u8],
     row: &mut [u64],
 ) -> u64
-    ensures { λ r. ⌜ Answered policy (now (list .entry)) (now (startup .entry)) (now (cycle .entry)) (now (row .entry)) r (now (startup .exit)) (now (cycle .exit)) (now (row .exit)) ⌝ }
+    ensures { λ r. ⌜ Answered wideCard policy (now (list .entry)) (now (startup .entry)) (now (cycle .entry)) (now (row .entry)) r (now (startup .exit)) (now (cycle .exit)) (now (row .exit)) ⌝ }
 {
-    answered(lent::load(list), policy, startup, cycle, row)
+    on_wide(lent::load(list), policy, startup, cycle, row)
 }

@@ -3,6 +3,7 @@
 use answer::Answer;
 use answer::IDLE;
 use answer::Plan;
+use card::Card;
 use libc::STDOUT_FILENO;
 use schedule::Policy;
 use task::Task;
@@ -84,7 +85,7 @@ fn main() {
         .with(Task::new(1, 1, 2, 4));
     let mut startup = [IDLE; 5];
     let mut cycle = [IDLE; 4];
-    let said = checker::check(list, Policy::Edf, &mut startup, &mut cycle);
+    let said = checker::check(list, Card::Wide, Policy::Edf, &mut startup, &mut cycle);
     say(said);
     table(b"startup", &startup);
     table(b"cycle", &cycle);

@@ -30,7 +30,7 @@ use Rattle.state.proofs.Preempted.{preempted}
 
 module _ {l : List Task} {n : ℕ} {run deadline period : List ℕ} (L : Loaded l n run deadline period) where
   pub ok : Passed l (L .startup-room) (L .cycle-room)
-  ok = passed l (L .startup-room) (L .cycle-room) (L .no-refusal)
+  ok = passed (L .card) l (L .startup-room) (L .cycle-room) (L .no-refusal)
 
   pub w : Sound l (hyperperiod l)
   w = is-sound ok

@@ -2,10 +2,13 @@
 pub mod list;
 
 ghost use mathlib.Core.Path.{_≡_};
+ghost use mathlib.Core.Bool.{_||_};
+ghost use lib.Dec.{eqb, ltb};
 ghost use Rattle.task.specs.Limits.{mostTasks, longestPeriod, latestOffset, longestHyperperiod};
 ghost use Rattle.task.specs.Tasks.{taskOf};
 ghost use Rattle.refusal.specs.Refusals.{findingOf};
 ghost use Rattle.task.specs.Checks.{taskRefusal};
+use card::Card;
 use refusal::Check;
 use refusal::Refusal;
 
@@ -39,15 +42,17 @@ impl Task {
         }
     }
 
-    // The first of refusals 2 to 5 that the task meets, as task `number` of its list.
-    pub fn check(self, number: usize) -> Check
-        ensures { λ r. ⌜ findingOf r ≡ taskRefusal number self ⌝ }
+    // The first of refusals 2, 9, 3, 4 and 5 that the task meets, as task `number` of a list for a card.
+    pub fn check(self, card: Card, number: usize) -> Check
+        ensures { λ r. ⌜ findingOf r ≡ taskRefusal card number self ⌝ }
     {
-        if self.period == 0 {
+        let unfit = is_unfit(self.period);
+        let untimed = !card.times(self.period);
+        if unfit {
             return Check::Refused(Refusal::Period, number);
         }
-        if Task::LONGEST_PERIOD < self.period {
-            return Check::Refused(Refusal::Period, number);
+        if untimed {
+            return Check::Refused(Refusal::Timer, number);
         }
         if self.run == 0 {
             return Check::Refused(Refusal::Run, number);
@@ -71,4 +76,14 @@ impl Task {
         ensures { λ _. do ⌜ (← ⟦Task::LATEST_OFFSET⟧ .entry) ≡ latestOffset ⌝ }
         ensures { λ _. do ⌜ (← ⟦Task::LONGEST_HYPERPERIOD⟧ .entry) ≡ longestHyperperiod ⌝ }
     {}
+}
+
+// A period that no list may have, whatever its card.
+fn is_unfit(period: usize) -> bool
+    ensures { λ r. ⌜ r ≡ (eqb period 0 || ltb longestPeriod period) ⌝ }
+{
+    if period == 0 {
+        return true;
+    }
+    Task::LONGEST_PERIOD < period
 }

@@ -1,9 +1,11 @@
--- The list as text, read line by line. Request #101.
+-- The list as text, read line by line. Requests #101 and #105.
 use mathlib.Core.Bool.{Bool, true, false}
 use mathlib.Core.List.{List, [], _∷_, _++_}
 use Prim.Native.Nat.{ℕ, suc}
 use lib.Dec.{ltb}
 use lib.ListN.{length}
+use Rattle.card.specs.declared.Card.{Card}
+use Rattle.card.specs.declared.Card.the-variants.{Wide, Small}
 use Rattle.task.specs.declared.Task.{Task}
 use Rattle.schedule.specs.declared.Policy.{Policy}
 use Rattle.decimal.specs.Bytes.{newline}
@@ -12,31 +14,41 @@ use Rattle.line.specs.declared.First.the-variants.{Policy as policyLine, Unread
 use Rattle.line.specs.declared.Line.{Line}
 use Rattle.line.specs.declared.Line.the-variants.{Task as taskLine, Unread as noTaskLine}
 use Rattle.line.specs.Lines.{parts}
-use Rattle.line.specs.Kinds.{firstOf, lineOf}
+use Rattle.line.specs.Kinds.{firstOf, isCard, lineOf}
 
 -- the longest input that is read
 abbrev pub mostBytes : ℕ
 mostBytes = 4096
 
--- a policy and a list, or the first line that can't be read by its number from 1; 0 for an input that is too long
+-- a card, a policy and a list, or the first line that can't be read by its number from 1; 0 for an input that is too long
 pub data Reading : Type 0 where
   unread : ℕ → Reading
-  listed : Policy → List Task → Reading
+  listed : Card → Policy → List Task → Reading
 
 abbrev pub withTask : Line → ℕ → (Task → Reading) → Reading
 withTask noTaskLine n rest = unread n
 withTask (taskLine τ) n rest = rest τ
 
 -- after the last newline there is nothing, or a line that has none
-abbrev pub atEnd : Policy → List Task → ℕ → List ℕ → Reading
-atEnd p l n [] = listed p l
-atEnd p l n (b ∷ line) = unread n
+abbrev pub atEnd : Card → Policy → List Task → ℕ → List ℕ → Reading
+atEnd c p l n [] = listed c p l
+atEnd c p l n (b ∷ line) = unread n
 
--- the lines from line n on, after a policy and tasks
-abbrev pub tasksOn : Policy → List Task → ℕ → List (List ℕ) → Reading
-tasksOn p l n [] = unread n
-tasksOn p l n (line ∷ []) = atEnd p l n line
-tasksOn p l n (line ∷ more ∷ lines) = withTask (lineOf line) n λ τ. tasksOn p (l ++ τ ∷ []) (suc n) (more ∷ lines)
+-- the lines from line n on, after a policy, a card and tasks
+abbrev pub tasksOn : Card → Policy → List Task → ℕ → List (List ℕ) → Reading
+tasksOn c p l n [] = unread n
+tasksOn c p l n (line ∷ []) = atEnd c p l n line
+tasksOn c p l n (line ∷ more ∷ lines) = withTask (lineOf line) n λ τ. tasksOn c p (l ++ τ ∷ []) (suc n) (more ∷ lines)
+
+abbrev pub smallIf : Bool → Reading → Reading → Reading
+smallIf true small wide = small
+smallIf false small wide = wide
+
+-- the lines after a policy: `card small` and then the tasks, or the tasks for a wide card at once
+abbrev pub cardOn : Policy → List (List ℕ) → Reading
+cardOn p [] = unread 2
+cardOn p (line ∷ []) = atEnd Wide p [] 2 line
+cardOn p (line ∷ more ∷ lines) = smallIf (isCard line) (tasksOn Small p [] 3 (more ∷ lines)) (tasksOn Wide p [] 2 (line ∷ more ∷ lines))
 
 abbrev pub withPolicy : First → (Policy → Reading) → Reading
 withPolicy noPolicyLine rest = unread 1
@@ -45,7 +57,7 @@ withPolicy (policyLine p) rest = rest p
 abbrev pub linesOf : List (List ℕ) → Reading
 linesOf [] = unread 1
 linesOf (line ∷ []) = unread 1
-linesOf (line ∷ more ∷ lines) = withPolicy (firstOf line) λ p. tasksOn p [] 2 (more ∷ lines)
+linesOf (line ∷ more ∷ lines) = withPolicy (firstOf line) λ p. cardOn p (more ∷ lines)
 
 abbrev pub unlessLong : Bool → Reading → Reading
 unlessLong true reading = unread 0

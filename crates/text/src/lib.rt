@@ -1,15 +1,17 @@
-// The list as text, read from bytes. Request #101.
+// The list as text, read from bytes. Requests #101 and #105.
 ghost use mathlib.Core.Path.{_≡_};
 ghost use mathlib.Core.List.{[]};
-ghost use Prim.Native.Nat.{_≤_};
+ghost use Prim.Native.Nat.{_+_, _≤_};
 ghost use lib.ListN.{length, drop};
 ghost use Rattle.decimal.specs.Bytes.{newline};
 ghost use Rattle.line.specs.Lines.{parts};
-ghost use Rattle.text.specs.Reading.{reading, unread, linesOf, tasksOn, mostBytes};
+ghost use Rattle.text.specs.Reading.{reading, unread, linesOf, cardOn, tasksOn, mostBytes};
 ghost use Rattle.text.specs.Held.{held};
+use card::Card;
 use line::First;
 use line::Line;
 use line::field::before;
+use line::is_card;
 use line::policy_of;
 use line::task_of;
 use schedule::Policy;
@@ -20,10 +22,10 @@ pub const MOST_BYTES: usize = 4096;
 
 const NEWLINE: u8 = b'\n';
 
-// The first line that can't be read, 0 for an input that is too long; or a list and its policy.
+// The first line that can't be read, 0 for an input that is too long; or a list, with its card and its policy.
 pub enum Found {
     Unread(usize),
-    Listed(Policy),
+    Listed(Card, Policy),
 }
 
 pub struct Contents {
@@ -60,16 +62,33 @@ fn lines(s: &[u8]) -> Contents
     let First::Policy(policy) = policy_of(&s[..end]) else {
         return unread(1);
     };
-    tasks(s, end + 1, policy)
+    cards(s, end + 1, policy)
 }
 
-// The lines from the second on. A list that is too long is read to its end: the array counts what it can't hold.
-fn tasks(s: &[u8], from: usize, policy: Policy) -> Contents
+// The lines from the second on: a list for a small card says so there, one for a wide card begins with its tasks.
+fn cards(s: &[u8], from: usize, policy: Policy) -> Contents
     requires { ⌜ from ≤ length (now s) ⌝ }
-    ensures { λ r. ⌜ r ≡ held (tasksOn policy [] 2 (parts newline (drop from (now (s .entry))))) ⌝ }
+    ensures { λ r. ⌜ r ≡ held (cardOn policy (parts newline (drop from (now (s .entry))))) ⌝ }
+{
+    let rest = &s[from..];
+    let end = before(rest, NEWLINE);
+    if !is_card(&rest[..end]) {
+        return tasks(s, from, Card::Wide, policy, 2);
+    }
+    // A card's line needs its newline too.
+    if rest.len() <= end {
+        return unread(2);
+    }
+    tasks(s, from + end + 1, Card::Small, policy, 3)
+}
+
+// The lines from the first task on. A list that is too long is read to its end: the array counts what it can't hold.
+fn tasks(s: &[u8], from: usize, card: Card, policy: Policy, first: usize) -> Contents
+    requires { ⌜ (from ≤ length (now s)) × (first ≤ from + 2) ⌝ }
+    ensures { λ r. ⌜ r ≡ held (tasksOn card policy [] first (parts newline (drop from (now (s .entry))))) ⌝ }
 {
     let mut at = from;
-    let mut n = 2;
+    let mut n = first;
     let mut own = Tasks::none();
     while at < s.len() {
         let rest = &s[at..];
@@ -85,7 +104,7 @@ fn tasks(s: &[u8], from: usize, policy: Policy) -> Contents
         n += 1;
     }
     Contents {
-        found: Found::Listed(policy),
+        found: Found::Listed(card, policy),
         tasks: own,
     }
 }

@@ -4,6 +4,7 @@ use mathlib.Core.Bool.{Bool, true, false, _||_, true≢false}
 use mathlib.Core.List.{List}
 use Prim.Native.Nat.{ℕ}
 use lib.ListN.{length}
+use Rattle.card.specs.declared.Card.{Card}
 use Rattle.task.specs.declared.Task.{Task}
 use Rattle.task.specs.declared.list.Tasks.{Tasks}
 use Rattle.task.specs.Limits.{mostTasks}
@@ -14,25 +15,25 @@ use Rattle.answer.specs.declared.Answer.{Answer}
 use Rattle.answer.specs.Answers.{row}
 use Rattle.answer.specs.Promise.{Promised}
 use Rattle.answer.proofs.Pinned.{answer-pinned}
-use Rattle.words.specs.Words.{policyOf, tasksOf, code, written, misread, ragged, either, Answered, AnsweredWords}
+use Rattle.words.specs.Words.{cardOf, policyOf, tasksOf, code, written, misread, ragged, either, Answered, AnsweredWords}
 
-module _ (policy : ℕ) (l : List Task) (startup cycle words : List ℕ) where
-  pub not-understood : (b : Bool) → b ≡ true → either policy l startup cycle words b 4 startup cycle words
+module _ (card policy : ℕ) (l : List Task) (startup cycle words : List ℕ) where
+  pub not-understood : (b : Bool) → b ≡ true → either card policy l startup cycle words b 4 startup cycle words
   not-understood true e = record { is-code = refl; tables = record { startup-kept = refl; cycle-kept = refl }; words-kept = refl }
   not-understood false e = absurd (true≢false (sym e))
 
-  pub understood : misread policy words ≡ false → (p : Policy) (a : Answer) (n : ℕ) (s c w : List ℕ) → p ≡ policyOf policy →
-      Promised p l startup cycle a s c → n ≡ code (row a) → w ≡ written (row a) words → Answered policy l startup cycle words n s c w
-  understood e p a n s c w is-policy says is-code is-written = go (misread policy words) e
+  pub understood : misread card policy words ≡ false → (k : Card) (p : Policy) (a : Answer) (n : ℕ) (s c w : List ℕ) → k ≡ cardOf card → p ≡ policyOf policy →
+      Promised k p l startup cycle a s c → n ≡ code (row a) → w ≡ written (row a) words → Answered card policy l startup cycle words n s c w
+  understood e k p a n s c w is-card is-policy says is-code is-written = go (misread card policy words) e
     where
-      promised : Promised (policyOf policy) l startup cycle a s c
-      promised = rw is-policy at says
+      promised : Promised (cardOf card) (policyOf policy) l startup cycle a s c
+      promised = rw (is-card, is-policy) at says
 
-      go : (b : Bool) → b ≡ false → either policy l startup cycle words b n s c w
+      go : (b : Bool) → b ≡ false → either card policy l startup cycle words b n s c w
       go true e = absurd (true≢false e)
       go false e = record { answer = a; promised = promised; is-code = is-code; is-written = is-written }
 
-  either-pinned : (n n′ : ℕ) (s c w s′ c′ w′ : List ℕ) (b : Bool) → either policy l startup cycle words b n s c w → either policy l startup cycle words b n′ s′ c′ w′ →
+  either-pinned : (n n′ : ℕ) (s c w s′ c′ w′ : List ℕ) (b : Bool) → either card policy l startup cycle words b n s c w → either card policy l startup cycle words b n′ s′ c′ w′ →
       (n ≡ n′) × (s ≡ s′) × (c ≡ c′) × (w ≡ w′)
   either-pinned n n′ s c w s′ c′ w′ true x y = (
     x .is-code ∙ sym (y .is-code),
@@ -41,40 +42,40 @@ module _ (policy : ℕ) (l : List Task) (startup cycle words : List ℕ) where
     x .words-kept ∙ sym (y .words-kept),
   )
   either-pinned n n′ s c w s′ c′ w′ false x y =
-      let e = answer-pinned (policyOf policy) l startup cycle (x .answer) (y .answer) s c s′ c′ (x .promised) (y .promised) in (
+      let e = answer-pinned (cardOf card) (policyOf policy) l startup cycle (x .answer) (y .answer) s c s′ c′ (x .promised) (y .promised) in (
         x .is-code ∙ ap (λ (a : Answer). code (row a)) (e .0) ∙ sym (y .is-code),
         e .1,
         e .2,
         x .is-written ∙ ap (λ (a : Answer). written (row a) words) (e .0) ∙ sym (y .is-written),
       )
 
-  -- `sholakpite_check_tasks` has one outcome
-  pub tasks-pinned : (n n′ : ℕ) (s c w s′ c′ w′ : List ℕ) → Answered policy l startup cycle words n s c w → Answered policy l startup cycle words n′ s′ c′ w′ →
+  -- `sholakpite_check_tasks_card` has one outcome, and so has `sholakpite_check_tasks`, which is the same for a wide card
+  pub tasks-pinned : (n n′ : ℕ) (s c w s′ c′ w′ : List ℕ) → Answered card policy l startup cycle words n s c w → Answered card policy l startup cycle words n′ s′ c′ w′ →
       (n ≡ n′) × (s ≡ s′) × (c ≡ c′) × (w ≡ w′)
-  tasks-pinned n n′ s c w s′ c′ w′ = either-pinned n n′ s c w s′ c′ w′ (misread policy words)
+  tasks-pinned n n′ s c w s′ c′ w′ = either-pinned n n′ s c w s′ c′ w′ (misread card policy words)
 
 -- what is promised for the tasks of a list of words is promised for the words, where they are not ragged
-pub of-words : (policy : ℕ) (list startup cycle words : List ℕ) (n : ℕ) (s c w : List ℕ) → ragged list ≡ false →
-    Answered policy (tasksOf list) startup cycle words n s c w → AnsweredWords policy list startup cycle words n s c w
-of-words policy list startup cycle words n s c w = go (ragged list)
+pub of-words : (card policy : ℕ) (list startup cycle words : List ℕ) (n : ℕ) (s c w : List ℕ) → ragged list ≡ false →
+    Answered card policy (tasksOf list) startup cycle words n s c w → AnsweredWords card policy list startup cycle words n s c w
+of-words card policy list startup cycle words n s c w = go (ragged list)
   where
-    go : (b : Bool) → b ≡ false → Answered policy (tasksOf list) startup cycle words n s c w →
-        either policy (tasksOf list) startup cycle words (b || misread policy words) n s c w
+    go : (b : Bool) → b ≡ false → Answered card policy (tasksOf list) startup cycle words n s c w →
+        either card policy (tasksOf list) startup cycle words (b || misread card policy words) n s c w
     go true e x = absurd (true≢false e)
     go false e x = x
 
--- `sholakpite_check` has one outcome
-pub words-pinned : (policy : ℕ) (list startup cycle words : List ℕ) (n n′ : ℕ) (s c w s′ c′ w′ : List ℕ) →
-    AnsweredWords policy list startup cycle words n s c w → AnsweredWords policy list startup cycle words n′ s′ c′ w′ →
+-- `sholakpite_check_card` has one outcome, and so has `sholakpite_check`
+pub words-pinned : (card policy : ℕ) (list startup cycle words : List ℕ) (n n′ : ℕ) (s c w s′ c′ w′ : List ℕ) →
+    AnsweredWords card policy list startup cycle words n s c w → AnsweredWords card policy list startup cycle words n′ s′ c′ w′ →
     (n ≡ n′) × (s ≡ s′) × (c ≡ c′) × (w ≡ w′)
-words-pinned policy list startup cycle words n n′ s c w s′ c′ w′ =
-    either-pinned policy (tasksOf list) startup cycle words n n′ s c w s′ c′ w′ (ragged list || misread policy words)
+words-pinned card policy list startup cycle words n n′ s c w s′ c′ w′ =
+    either-pinned card policy (tasksOf list) startup cycle words n n′ s c w s′ c′ w′ (ragged list || misread card policy words)
 
--- `answered` has one outcome: the array holds a list, and for that list there is one
-pub answered-pinned : (ts : Tasks) → length (ts .items) ≡ mostTasks → (policy : ℕ) (startup cycle words : List ℕ) (n n′ : ℕ) (s c w s′ c′ w′ : List ℕ) →
-    ((l : List Task) → Holds ts l → Answered policy l startup cycle words n s c w) →
-    ((l : List Task) → Holds ts l → Answered policy l startup cycle words n′ s′ c′ w′) → (n ≡ n′) × (s ≡ s′) × (c ≡ c′) × (w ≡ w′)
-answered-pinned ts full policy startup cycle words n n′ s c w s′ c′ w′ x y = of-list _ (held ts full)
+-- `answered` has one outcome, and so has `on_wide`: the array holds a list, and for that list there is one
+pub answered-pinned : (ts : Tasks) → length (ts .items) ≡ mostTasks → (card policy : ℕ) (startup cycle words : List ℕ) (n n′ : ℕ) (s c w s′ c′ w′ : List ℕ) →
+    ((l : List Task) → Holds ts l → Answered card policy l startup cycle words n s c w) →
+    ((l : List Task) → Holds ts l → Answered card policy l startup cycle words n′ s′ c′ w′) → (n ≡ n′) × (s ≡ s′) × (c ≡ c′) × (w ≡ w′)
+answered-pinned ts full card policy startup cycle words n n′ s c w s′ c′ w′ x y = of-list _ (held ts full)
   where
     of-list : (l : List Task) → Holds ts l → (n ≡ n′) × (s ≡ s′) × (c ≡ c′) × (w ≡ w′)
-    of-list l h = tasks-pinned policy l startup cycle words n n′ s c w s′ c′ w′ (x l h) (y l h)
+    of-list l h = tasks-pinned card policy l startup cycle words n n′ s c w s′ c′ w′ (x l h) (y l h)

@@ -1,13 +1,18 @@
--- Words read as numbers of policies and as tasks.
+-- Words read as numbers of cards and policies, and as tasks.
 use mathlib.Core.Path.{_≡_, refl}
 use mathlib.Core.List.{List, [], _∷_}
 use Prim.Native.Nat.{ℕ, zero, suc, _+_, _*_, _/_, _<_, _≤_}
 use native.Mathlib.Omega.{arith}
 use lib.ListN.{length}
+use Rattle.card.specs.declared.Card.the-variants.{Small}
 use Rattle.task.specs.Tasks.{task}
 use Rattle.schedule.specs.declared.Policy.the-variants.{Edf}
-use Rattle.words.specs.Words.{policyOf, tasksOf}
+use Rattle.words.specs.Words.{cardOf, policyOf, tasksOf}
 use Rattle.words.specs.Reading.{taskAt}
+
+pub card-small : (n : ℕ) → 0 < n → cardOf n ≡ Small
+card-small zero h = absurd (omega arith)
+card-small (suc n) h = refl
 
 pub policy-edf : (n : ℕ) → 3 ≤ n → policyOf n ≡ Edf
 policy-edf zero h = absurd (omega arith)

@@ -5,6 +5,8 @@ use mathlib.Core.List.{List, [], _∷_, _++_}
 use Prim.Native.Nat.{ℕ, zero, suc, _%_}
 use lib.Dec.{eqb, ltb}
 use lib.ListN.{length, drop}
+use Rattle.card.specs.declared.Card.{Card}
+use Rattle.card.specs.declared.Card.the-variants.{Wide, Small}
 use Rattle.task.specs.declared.Task.{Task}
 use Rattle.task.specs.Tasks.{taskOf}
 use Rattle.schedule.specs.declared.Policy.{Policy}
@@ -12,6 +14,17 @@ use Rattle.schedule.specs.declared.Policy.the-variants.{ListOrder, RateMonotoni
 use Rattle.answer.specs.declared.Answer.{Answer}
 use Rattle.answer.specs.Answers.{Row, refused, overloaded, missed, feasible, row}
 use Rattle.answer.specs.Promise.{Promised, Unchanged}
+
+abbrev pub wideCard : ℕ
+wideCard = 0
+
+abbrev pub lastCard : ℕ
+lastCard = 1
+
+-- 0 wide, 1 small
+abbrev pub cardOf : ℕ → Card
+cardOf zero = Wide
+cardOf (suc n) = Small
 
 abbrev pub lastPolicy : ℕ
 lastPolicy = 3
@@ -53,9 +66,9 @@ written r words = values r ++ drop (length (values r)) words
 abbrev pub rowLength : ℕ
 rowLength = 8
 
--- the policy is above 3, or the answer's buffer is shorter than eight
-abbrev pub misread : ℕ → List ℕ → Bool
-misread policy words = ltb lastPolicy policy || ltb (length words) rowLength
+-- the card is above 1, the policy is above 3, or the answer's buffer is shorter than eight
+abbrev pub misread : ℕ → ℕ → List ℕ → Bool
+misread card policy words = ltb lastCard card || ltb lastPolicy policy || ltb (length words) rowLength
 
 -- O, C, D and T
 abbrev pub taskWords : ℕ
@@ -70,7 +83,7 @@ abbrev pub notUnderstood : ℕ
 notUnderstood = 4
 
 -- `startup`, `cycle` and `words` are the buffers as they were lent, s, c and w as they are left
-module _ (policy : ℕ) (l : List Task) (startup cycle words : List ℕ) where
+module _ (card policy : ℕ) (l : List Task) (startup cycle words : List ℕ) where
   pub record NotUnderstood (n : ℕ) (s c w : List ℕ) : Type 0 where
     pub is-code : n ≡ notUnderstood
     pub tables : Unchanged startup cycle s c
@@ -78,7 +91,7 @@ module _ (policy : ℕ) (l : List Task) (startup cycle words : List ℕ) where
 
   pub record Understood (n : ℕ) (s c w : List ℕ) : Type 0 where
     pub answer : Answer
-    pub promised : Promised (policyOf policy) l startup cycle answer s c
+    pub promised : Promised (cardOf card) (policyOf policy) l startup cycle answer s c
     pub is-code : n ≡ code (row answer)
     pub is-written : w ≡ written (row answer) words
 
@@ -87,9 +100,10 @@ module _ (policy : ℕ) (l : List Task) (startup cycle words : List ℕ) where
   either false n s c w = Understood n s c w
 
 -- a list of tasks: 4 exactly where the call is misread
-abbrev pub Answered : ℕ → List Task → List ℕ → List ℕ → List ℕ → ℕ → List ℕ → List ℕ → List ℕ → Type 0
-Answered policy l startup cycle words = either policy l startup cycle words (misread policy words)
+abbrev pub Answered : ℕ → ℕ → List Task → List ℕ → List ℕ → List ℕ → ℕ → List ℕ → List ℕ → List ℕ → Type 0
+Answered card policy l startup cycle words = either card policy l startup cycle words (misread card policy words)
 
 -- a list of words: 4 exactly where it is ragged or the call is misread
-abbrev pub AnsweredWords : ℕ → List ℕ → List ℕ → List ℕ → List ℕ → ℕ → List ℕ → List ℕ → List ℕ → Type 0
-AnsweredWords policy list startup cycle words = either policy (tasksOf list) startup cycle words (ragged list || misread policy words)
+abbrev pub AnsweredWords : ℕ → ℕ → List ℕ → List ℕ → List ℕ → List ℕ → ℕ → List ℕ → List ℕ → List ℕ → Type 0
+AnsweredWords card policy list startup cycle words =
+    either card policy (tasksOf list) startup cycle words (ragged list || misread card policy words)

@@ -5,7 +5,8 @@ mod row;
 ghost use mathlib.Core.List.{List};
 ghost use Rattle.task.specs.declared.Task.{Task};
 ghost use Rattle.task.specs.Arrays.{Holds};
-ghost use Rattle.words.specs.Words.{Answered};
+ghost use Rattle.words.specs.Words.{Answered, wideCard};
+use crate::list::card_of;
 use crate::list::policy_of;
 use crate::row::tell;
 use task::list::Tasks;
@@ -13,22 +14,39 @@ use task::list::Tasks;
 // The code of a call that is not understood; then nothing is written.
 pub const NOT_UNDERSTOOD: u64 = 4;
 
-// Checks a list under a policy by number, and gives the answer's code; its values go into `row`.
+// Checks a list for a card under a policy, both by number, and gives the answer's code; its values go into `row`.
 pub fn answered(
     own: Tasks,
+    card: u64,
     policy: u64,
     startup: &mut [u8],
     cycle: &mut [u8],
     row: &mut [u64],
 ) -> u64
-    ensures { λ r. ⌜ ((l : List Task) → Holds own l → Answered policy l (now (startup .entry)) (now (cycle .entry)) (now (row .entry)) r (now (startup .exit)) (now (cycle .exit)) (now (row .exit))) ⌝ }
+    ensures { λ r. ⌜ ((l : List Task) → Holds own l → Answered card policy l (now (startup .entry)) (now (cycle .entry)) (now (row .entry)) r (now (startup .exit)) (now (cycle .exit)) (now (row .exit))) ⌝ }
 {
+    if list::LAST_CARD < card {
+        return NOT_UNDERSTOOD;
+    }
     if list::LAST_POLICY < policy {
         return NOT_UNDERSTOOD;
     }
     if row.len() < row::LENGTH {
         return NOT_UNDERSTOOD;
     }
-    let answer = checker::check(own, policy_of(policy), startup, cycle);
+    let answer = checker::check(own, card_of(card), policy_of(policy), startup, cycle);
     tell(answer, row)
+}
+
+// The same, for a wide card.
+pub fn on_wide(
+    own: Tasks,
+    policy: u64,
+    startup: &mut [u8],
+    cycle: &mut [u8],
+    row: &mut [u64],
+) -> u64
+    ensures { λ r. ⌜ ((l : List Task) → Holds own l → Answered wideCard policy l (now (startup .entry)) (now (cycle .entry)) (now (row .entry)) r (now (startup .exit)) (now (cycle .exit)) (now (row .exit))) ⌝ }
+{
+    answered(own, list::WIDE, policy, startup, cycle, row)
 }

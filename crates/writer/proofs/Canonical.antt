@@ -7,6 +7,8 @@ use lib.Dec.{eqb, ltb}
 use lib.ListN.{length}
 use lib.Seq.{append-snoc}
 use borrow.Author.Tests.{eqb-true}
+use Rattle.card.specs.declared.Card.{Card}
+use Rattle.card.specs.declared.Card.the-variants.{Wide, Small as SmallCard}
 use Rattle.task.specs.declared.Task.{Task}
 use Rattle.task.specs.Tasks.{taskOf}
 use Rattle.schedule.specs.declared.Policy.{Policy}
@@ -20,12 +22,12 @@ use Rattle.line.specs.declared.First.the-variants.{Policy as policyLine, Unread
 use Rattle.line.specs.declared.Line.{Line}
 use Rattle.line.specs.declared.Line.the-variants.{Task as taskLine, Unread as noTaskLine}
 use Rattle.line.specs.Lines.{largestNumber, parts, same, numberOf}
-use Rattle.line.specs.Kinds.{policyText, firstIf, firstOf, lineIf, withNumber, next, last, taskFields, lineOf}
-use Rattle.text.specs.Reading.{mostBytes, Reading, withTask, tasksOn, withPolicy, linesOf, unlessLong, reading, listed}
+use Rattle.line.specs.Kinds.{policyText, cardText, isCard, firstIf, firstOf, lineIf, withNumber, next, last, taskFields, lineOf}
+use Rattle.text.specs.Reading.{mostBytes, Reading, withTask, tasksOn, smallIf, cardOn, withPolicy, linesOf, unlessLong, reading, listed}
 use Rattle.writer.specs.Writing.{text, anyLarge}
 use Rattle.line.proofs.Parts.{never, joined, joined-parts}
 use Rattle.writer.proofs.Numbers.{number-is}
-use Rattle.writer.proofs.TextLines.{Small, not-large, lineText, fields, taskLines, fields-joined, lines-joined}
+use Rattle.writer.proofs.TextLines.{Small, not-large, lineText, fields, taskLines, cardLines, listLines, fields-joined, lines-joined}
 
 same-is : (s t : List ℕ) → same s t ≡ true → s ≡ t
 same-is [] [] e = refl
@@ -78,25 +80,26 @@ line-is line τ e =
     (sym (joined-parts space line) ∙ ap (joined space) (all .0) ∙ sym (fields-joined τ), all .1)
 
 -- what the lines after the tasks l say, where they read as all tasks
-record Rest (p : Policy) (l : List Task) (lines : List (List ℕ)) (q : Policy) (all : List Task) : Type 0 where
+record Rest (c : Card) (p : Policy) (l : List Task) (lines : List (List ℕ)) (d : Card) (q : Policy) (all : List Task) : Type 0 where
   rest : List Task
   after : all ≡ l ++ rest
   are-lines : lines ≡ taskLines rest
   are-small : anyLarge rest ≡ false
+  card : c ≡ d
   policy : p ≡ q
 
-tasks-are : (lines : List (List ℕ)) (p : Policy) (l : List Task) (n : ℕ) (q : Policy) (all : List Task)
-    → tasksOn p l n lines ≡ listed q all → Rest p l lines q all
-tasks-are [] p l n q all e = never (cc)
-tasks-are ([] ∷ []) p l n q all e = record { rest = []; after = rw append-nil (cc); are-lines = refl; are-small = refl; policy = cc }
-tasks-are ((b ∷ line) ∷ []) p l n q all e = never (cc)
-tasks-are (line ∷ more ∷ lines) p l n q all e = go (lineOf line) refl e (λ τ. tasks-are (more ∷ lines) p (l ++ τ ∷ []) (suc n) q all)
+tasks-are : (lines : List (List ℕ)) (c : Card) (p : Policy) (l : List Task) (n : ℕ) (d : Card) (q : Policy) (all : List Task)
+    → tasksOn c p l n lines ≡ listed d q all → Rest c p l lines d q all
+tasks-are [] c p l n d q all e = never (cc)
+tasks-are ([] ∷ []) c p l n d q all e = record { rest = []; after = rw append-nil (cc); are-lines = refl; are-small = refl; card = cc; policy = cc }
+tasks-are ((b ∷ line) ∷ []) c p l n d q all e = never (cc)
+tasks-are (line ∷ more ∷ lines) c p l n d q all e = go (lineOf line) refl e (λ τ. tasks-are (more ∷ lines) c p (l ++ τ ∷ []) (suc n) d q all)
   where
     reads : Task → Reading
-    reads τ = tasksOn p (l ++ τ ∷ []) (suc n) (more ∷ lines)
+    reads τ = tasksOn c p (l ++ τ ∷ []) (suc n) (more ∷ lines)
 
-    go : (read : Line) → lineOf line ≡ read → withTask read n reads ≡ listed q all
-        → ((τ : Task) → reads τ ≡ listed q all → Rest p (l ++ τ ∷ []) (more ∷ lines) q all) → Rest p l (line ∷ more ∷ lines) q all
+    go : (read : Line) → lineOf line ≡ read → withTask read n reads ≡ listed d q all
+        → ((τ : Task) → reads τ ≡ listed d q all → Rest c p (l ++ τ ∷ []) (more ∷ lines) d q all) → Rest c p l (line ∷ more ∷ lines) d q all
     go noTaskLine is e on = never (cc)
     go (taskLine τ) is e on =
         let r = on τ e in
@@ -106,8 +109,29 @@ tasks-are (line ∷ more ∷ lines) p l n q all e = go (lineOf line) refl e (λ 
           after = r .after ∙ append-snoc l τ (r .rest);
           are-lines = ap₂ (λ a b. a ∷ b) (t .0) (r .are-lines);
           are-small = rw (not-large τ (t .1)) (r .are-small);
+          card = r .card;
           policy = r .policy;
         }
+
+-- what the lines after a policy say, where they read as a list
+abbrev Listed : List (List ℕ) → Policy → Card → Policy → List Task → Type 0
+Listed lines q c p l = (lines ≡ listLines c l) × (anyLarge l ≡ false) × (q ≡ p)
+
+list-are : (d : Card) (lines : List (List ℕ)) (n : ℕ) (q : Policy) (c : Card) (p : Policy) (l : List Task)
+    → tasksOn d q [] n lines ≡ listed c p l → Listed (cardLines d ++ lines) q c p l
+list-are d lines n q c p l e =
+    let r = tasks-are lines d q [] n c p l e in
+    (rw (← r .card, r .after) (ap (λ t. cardLines d ++ t) (r .are-lines)), rw (r .after) (r .are-small), r .policy)
+
+cards-are : (lines : List (List ℕ)) (q : Policy) (c : Card) (p : Policy) (l : List Task) → cardOn q lines ≡ listed c p l → Listed lines q c p l
+cards-are [] q c p l e = never (cc)
+cards-are (line ∷ []) q c p l e = list-are Wide (line ∷ []) 2 q c p l e
+cards-are (line ∷ more ∷ lines) q c p l e = go (isCard line) refl e
+  where
+    go : (b : Bool) → isCard line ≡ b → smallIf b (tasksOn SmallCard q [] 3 (more ∷ lines)) (tasksOn Wide q [] 2 (line ∷ more ∷ lines)) ≡ listed c p l
+        → Listed (line ∷ more ∷ lines) q c p l
+    go true is e = rw (same-is line cardText is) (list-are SmallCard (more ∷ lines) 3 q c p l e)
+    go false is e = list-are Wide (line ∷ more ∷ lines) 2 q c p l e
 
 -- one policy's text, or what is tried after it
 first-if : (line : List ℕ) (q p : Policy) (other : First) → (other ≡ policyLine p → line ≡ policyText p)
@@ -125,24 +149,24 @@ first-is line p =
     (first-if line DeadlineMonotonic p _
     (first-if line Edf p noPolicyLine λ e. never (cc))))
 
-lines-are : (lines : List (List ℕ)) (p : Policy) (l : List Task)
-    → linesOf lines ≡ listed p l → (lines ≡ policyText p ∷ taskLines l) × (anyLarge l ≡ false)
-lines-are [] p l e = never (cc)
-lines-are (line ∷ []) p l e = never (cc)
-lines-are (line ∷ more ∷ lines) p l e = go (firstOf line) refl e
+lines-are : (lines : List (List ℕ)) (c : Card) (p : Policy) (l : List Task)
+    → linesOf lines ≡ listed c p l → (lines ≡ policyText p ∷ listLines c l) × (anyLarge l ≡ false)
+lines-are [] c p l e = never (cc)
+lines-are (line ∷ []) c p l e = never (cc)
+lines-are (line ∷ more ∷ lines) c p l e = go (firstOf line) refl e
   where
-    go : (first : First) → firstOf line ≡ first → withPolicy first (λ q. tasksOn q [] 2 (more ∷ lines)) ≡ listed p l
-        → (line ∷ more ∷ lines ≡ policyText p ∷ taskLines l) × (anyLarge l ≡ false)
+    go : (first : First) → firstOf line ≡ first → withPolicy first (λ q. cardOn q (more ∷ lines)) ≡ listed c p l
+        → (line ∷ more ∷ lines ≡ policyText p ∷ listLines c l) × (anyLarge l ≡ false)
     go noPolicyLine is e = never (cc)
     go (policyLine q) is e =
-        let r = tasks-are (more ∷ lines) q [] 2 p l e in
-        (rw (← r .policy, r .after) (ap₂ (λ a b. a ∷ b) (first-is line q is) (r .are-lines)), rw (r .after) (r .are-small))
+        let r = cards-are (more ∷ lines) q c p l e in
+        (ap₂ (λ a b. a ∷ b) (first-is line q is ∙ ap policyText (r .2)) (r .0), r .1)
 
-pub canonical : (s : List ℕ) (p : Policy) (l : List Task) → reading s ≡ listed p l → (s ≡ text p l) × (anyLarge l ≡ false)
-canonical s p l e = go (ltb mostBytes (length s)) e
+pub canonical : (s : List ℕ) (c : Card) (p : Policy) (l : List Task) → reading s ≡ listed c p l → (s ≡ text c p l) × (anyLarge l ≡ false)
+canonical s c p l e = go (ltb mostBytes (length s)) e
   where
-    go : (c : Bool) → unlessLong c (linesOf (parts newline s)) ≡ listed p l → (s ≡ text p l) × (anyLarge l ≡ false)
+    go : (long : Bool) → unlessLong long (linesOf (parts newline s)) ≡ listed c p l → (s ≡ text c p l) × (anyLarge l ≡ false)
     go true e = never (cc)
     go false e =
-        let are = lines-are (parts newline s) p l e in
-        (sym (joined-parts newline s) ∙ ap (joined newline) (are .0) ∙ sym (lines-joined p l), are .1)
+        let are = lines-are (parts newline s) c p l e in
+        (sym (joined-parts newline s) ∙ ap (joined newline) (are .0) ∙ sym (lines-joined c p l), are .1)

@@ -7,6 +7,8 @@ use native.Mathlib.Omega.{arith}
 use lib.Dec.{ltb}
 use lib.ListN.{length, length-append}
 use borrow.Author.Tests.{ltb-false}
+use Rattle.card.specs.declared.Card.{Card}
+use Rattle.card.specs.declared.Card.the-variants.{Wide, Small as SmallCard}
 use Rattle.task.specs.declared.Task.{Task}
 use Rattle.task.specs.Limits.{mostTasks}
 use Rattle.schedule.specs.declared.Policy.{Policy}
@@ -16,7 +18,7 @@ use Rattle.decimal.proofs.Decimal.{decimal-some, decimal-length}
 use Rattle.line.specs.Lines.{largestNumber}
 use Rattle.line.specs.Kinds.{policyText}
 use Rattle.text.specs.Reading.{mostBytes}
-use Rattle.writer.specs.Writing.{taskText, tasksText, text, isLarge, anyLarge, unwritable}
+use Rattle.writer.specs.Writing.{taskText, tasksText, cardLine, text, isLarge, anyLarge, unwritable}
 use Rattle.task.proofs.Refusing.{neither}
 use Rattle.writer.proofs.TextLines.{Small, small}
 
@@ -46,16 +48,21 @@ policy-length RateMonotonic = (omega arith, omega arith)
 policy-length DeadlineMonotonic = (omega arith, omega arith)
 policy-length Edf = (omega arith, omega arith)
 
-pub text-length : (p : Policy) (l : List Task) → unwritable l ≡ false → length (text p l) ≤ mostBytes
-text-length p l e =
+card-length : (c : Card) → length (cardLine c) ≤ 11
+card-length Wide = omega arith
+card-length SmallCard = omega arith
+
+pub text-length : (c : Card) (p : Policy) (l : List Task) → unwritable l ≡ false → length (text c p l) ≤ mostBytes
+text-length c p l e =
     let both = neither (ltb mostTasks (length l)) (anyLarge l) e in
-    rw length-append (omega (arith, policy-length p, most-tasks l (both .1), ltb-false mostTasks (length l) (both .0)))
+    simp length-append (omega (arith, policy-length p, card-length c, most-tasks l (both .1), ltb-false mostTasks (length l) (both .0)))
 
 -- so the code of a call that is not understood is no length either
-pub text-least : (p : Policy) (l : List Task) → 10 ≤ length (text p l)
-text-least p l = simp length-append (omega (arith, policy-length p))
+pub text-least : (c : Card) (p : Policy) (l : List Task) → 10 ≤ length (text c p l)
+text-least c p l = simp length-append (omega (arith, policy-length p))
 
--- the length is never the number of a refusal: 10 to 12 bytes without tasks, at least 23 with one
-pub never-13 : (p : Policy) (l : List Task) → length (text p l) ≡ 13 → ⊥
-never-13 p [] e = omega (arith, policy-length p, rw length-append at e)
-never-13 p (τ ∷ l) e = omega (arith, policy-length p, least-task τ, simp length-append at e)
+-- the length is never the number of a refusal: 10 to 12 bytes for the policy alone, at least 21 with a card or a task
+pub never-13 : (c : Card) (p : Policy) (l : List Task) → length (text c p l) ≡ 13 → ⊥
+never-13 Wide p [] e = omega (arith, policy-length p, rw length-append at e)
+never-13 SmallCard p [] e = omega (arith, policy-length p, rw length-append at e)
+never-13 c p (τ ∷ l) e = omega (arith, policy-length p, least-task τ, simp length-append at e)

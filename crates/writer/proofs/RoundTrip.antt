@@ -1,4 +1,4 @@
--- A list's text reads as that list.
+-- A list's text reads as that list, with its policy and its card.
 use mathlib.Core.Path.{_≡_, refl, ap, _∙_}
 use mathlib.Core.Bool.{false}
 use mathlib.Core.List.{List, [], _∷_, _++_, append-nil}
@@ -7,6 +7,8 @@ use lib.Dec.{ltb}
 use lib.ListN.{length}
 use lib.Seq.{append-snoc}
 use borrow.Author.Tests.{le-ltb}
+use Rattle.card.specs.declared.Card.{Card}
+use Rattle.card.specs.declared.Card.the-variants.{Wide, Small as SmallCard}
 use Rattle.task.specs.declared.Task.{Task}
 use Rattle.task.specs.Limits.{mostTasks}
 use Rattle.schedule.specs.declared.Policy.{Policy}
@@ -15,13 +17,14 @@ use Rattle.decimal.specs.Bytes.{newline}
 use Rattle.line.specs.declared.Line.the-variants.{Task as taskLine}
 use Rattle.line.specs.declared.First.the-variants.{Policy as policyLine}
 use Rattle.line.specs.Lines.{parts}
-use Rattle.line.specs.Kinds.{policyText, firstOf, taskFields, lineOf}
-use Rattle.text.specs.Reading.{mostBytes, withTask, withPolicy, tasksOn, linesOf, reading, listed}
+use Rattle.line.specs.Kinds.{policyText, cardText, firstOf, taskFields, lineOf}
+use Rattle.text.specs.Reading.{mostBytes, withTask, withPolicy, tasksOn, cardOn, linesOf, reading, listed}
 use Rattle.writer.specs.Writing.{text, isLarge, anyLarge, unwritable}
 use Rattle.task.proofs.Refusing.{neither}
+use Rattle.text.proofs.Reading.{no-card}
 use Rattle.writer.proofs.Numbers.{number-decimal}
 use Rattle.writer.proofs.Lengths.{text-length}
-use Rattle.writer.proofs.TextLines.{Small, small, lineText, taskLines, line-fields, text-lines}
+use Rattle.writer.proofs.TextLines.{Small, small, lineText, taskLines, listLines, some-line, line-fields, text-lines}
 
 pub line-text : (τ : Task) → Small τ → lineOf (lineText τ) ≡ taskLine τ
 line-text τ s =
@@ -34,24 +37,30 @@ first-text RateMonotonic = refl
 first-text DeadlineMonotonic = refl
 first-text Edf = refl
 
-tasks-step : (p : Policy) (l : List Task) (n : ℕ) (line : List ℕ) (m : List Task)
-    → tasksOn p l n (line ∷ taskLines m) ≡ withTask (lineOf line) n λ τ. tasksOn p (l ++ τ ∷ []) (suc n) (taskLines m)
-tasks-step p l n line [] = refl
-tasks-step p l n line (τ ∷ m) = refl
+tasks-step : (c : Card) (p : Policy) (l : List Task) (n : ℕ) (line : List ℕ) (m : List Task)
+    → tasksOn c p l n (line ∷ taskLines m) ≡ withTask (lineOf line) n λ τ. tasksOn c p (l ++ τ ∷ []) (suc n) (taskLines m)
+tasks-step c p l n line =
+    some-line (λ all. tasksOn c p l n (line ∷ all) ≡ withTask (lineOf line) n λ τ. tasksOn c p (l ++ τ ∷ []) (suc n) all) (λ more lines. refl) Wide
 
-tasks-text : (m : List Task) (p : Policy) (l : List Task) (n : ℕ) → anyLarge m ≡ false → tasksOn p l n (taskLines m) ≡ listed p (l ++ m)
-tasks-text [] p l n e = rw append-nil
-tasks-text (τ ∷ m) p l n e =
+tasks-text : (m : List Task) (c : Card) (p : Policy) (l : List Task) (n : ℕ) → anyLarge m ≡ false → tasksOn c p l n (taskLines m) ≡ listed c p (l ++ m)
+tasks-text [] c p l n e = rw append-nil
+tasks-text (τ ∷ m) c p l n e =
     let both = neither (isLarge τ) (anyLarge m) e in
-    tasks-step p l n (lineText τ) m ∙ rw (line-text τ (small τ (both .0)), tasks-text m p (l ++ τ ∷ []) (suc n) (both .1), append-snoc)
+    tasks-step c p l n (lineText τ) m ∙ rw (line-text τ (small τ (both .0)), tasks-text m c p (l ++ τ ∷ []) (suc n) (both .1), append-snoc)
 
-lines-step : (line : List ℕ) (l : List Task) → linesOf (line ∷ taskLines l) ≡ withPolicy (firstOf line) λ p. tasksOn p [] 2 (taskLines l)
-lines-step line [] = refl
-lines-step line (τ ∷ l) = refl
+-- a task's line is no card line
+card-text : (c : Card) (p : Policy) (l : List Task) → anyLarge l ≡ false → cardOn p (listLines c l) ≡ listed c p l
+card-text Wide p [] e = refl
+card-text Wide p (τ ∷ l) e = no-card p (lineText τ) (taskLines l) refl ∙ tasks-text (τ ∷ l) Wide p [] 2 e
+card-text SmallCard p l e =
+    some-line (λ all. cardOn p (cardText ∷ all) ≡ tasksOn SmallCard p [] 3 all) (λ more lines. refl) Wide l ∙ tasks-text l SmallCard p [] 3 e
 
-pub lines-text : (p : Policy) (l : List Task) → anyLarge l ≡ false → linesOf (parts newline (text p l)) ≡ listed p l
-lines-text p l e = ap linesOf (text-lines p l) ∙ lines-step (policyText p) l ∙ rw (first-text p, tasks-text l p [] 2 e)
+lines-step : (line : List ℕ) (c : Card) (l : List Task) → linesOf (line ∷ listLines c l) ≡ withPolicy (firstOf line) λ p. cardOn p (listLines c l)
+lines-step line = some-line (λ all. linesOf (line ∷ all) ≡ withPolicy (firstOf line) λ p. cardOn p all) λ more lines. refl
 
-pub round-trip : (p : Policy) (l : List Task) → unwritable l ≡ false → reading (text p l) ≡ listed p l
-round-trip p l e =
-    rw (le-ltb mostBytes (length (text p l)) (text-length p l e)) (lines-text p l (neither (ltb mostTasks (length l)) (anyLarge l) e .1))
+pub lines-text : (c : Card) (p : Policy) (l : List Task) → anyLarge l ≡ false → linesOf (parts newline (text c p l)) ≡ listed c p l
+lines-text c p l e = ap linesOf (text-lines c p l) ∙ lines-step (policyText p) c l ∙ rw (first-text p) (card-text c p l e)
+
+pub round-trip : (c : Card) (p : Policy) (l : List Task) → unwritable l ≡ false → reading (text c p l) ≡ listed c p l
+round-trip c p l e =
+    rw (le-ltb mostBytes (length (text c p l)) (text-length c p l e)) (lines-text c p l (neither (ltb mostTasks (length l)) (anyLarge l) e .1))

@@ -5,6 +5,8 @@ use mathlib.Core.List.{List, [], _∷_, _++_, append-assoc}
 use Prim.Native.Nat.{ℕ, _≤_, _<_}
 use native.Mathlib.Omega.{arith}
 use borrow.Author.Tests.{ltb-false, le-ltb, ne-eqb}
+use Rattle.card.specs.declared.Card.{Card}
+use Rattle.card.specs.declared.Card.the-variants.{Wide, Small as SmallCard}
 use Rattle.task.specs.declared.Task.{Task}
 use Rattle.schedule.specs.declared.Policy.{Policy}
 use Rattle.schedule.specs.declared.Policy.the-variants.{ListOrder, RateMonotonic, DeadlineMonotonic, Edf}
@@ -12,8 +14,8 @@ use Rattle.decimal.specs.Bytes.{bytes, newline, space}
 use Rattle.decimal.specs.Decimal.{nought, decimal}
 use Rattle.decimal.proofs.Decimal.{All, IsDigit, decimal-digits}
 use Rattle.line.specs.Lines.{largestNumber, parts}
-use Rattle.line.specs.Kinds.{policyText}
-use Rattle.writer.specs.Writing.{fieldText, tasksText, text, isLarge}
+use Rattle.line.specs.Kinds.{policyText, cardText}
+use Rattle.writer.specs.Writing.{fieldText, tasksText, cardLine, text, isLarge}
 use Rattle.task.proofs.Refusing.{neither}
 use Rattle.line.proofs.Parts.{has, Without, joined, parts-joined, without-joined}
 
@@ -55,25 +57,43 @@ abbrev pub taskLines : List Task → List (List ℕ)
 taskLines [] = [] ∷ []
 taskLines (τ ∷ l) = lineText τ ∷ taskLines l
 
+-- a card's line, if it has one
+abbrev pub cardLines : Card → List (List ℕ)
+cardLines Wide = []
+cardLines SmallCard = cardText ∷ []
+
+-- the lines after the policy's
+abbrev pub listLines : Card → List Task → List (List ℕ)
+listLines c l = cardLines c ++ taskLines l
+
 regroup : (a b c d e : List ℕ) → a ++ b ++ c ++ d ++ e ≡ a ++ (b ++ (c ++ (d ++ e)))
 regroup a b c d e = simp append-assoc
 
 pub fields-joined : (τ : Task) → lineText τ ≡ joined space (fields τ)
 fields-joined τ = regroup (bytes "task") (fieldText (τ .offset)) (fieldText (τ .run)) (fieldText (τ .deadline)) (fieldText (τ .period))
 
-joined-on : (part : List ℕ) (l : List Task) → joined newline (part ∷ taskLines l) ≡ part ++ newline ∷ joined newline (taskLines l)
-joined-on part [] = refl
-joined-on part (τ ∷ l) = refl
+-- they are never none
+pub some-line : (P : List (List ℕ) → Type 0) → ((line : List ℕ) (more : List (List ℕ)) → P (line ∷ more)) → (c : Card) (l : List Task) → P (listLines c l)
+some-line P some Wide [] = some [] []
+some-line P some Wide (τ ∷ l) = some (lineText τ) (taskLines l)
+some-line P some SmallCard l = some cardText (taskLines l)
+
+joined-on : (part : List ℕ) (c : Card) (l : List Task) → joined newline (part ∷ listLines c l) ≡ part ++ newline ∷ joined newline (listLines c l)
+joined-on part = some-line (λ all. joined newline (part ∷ all) ≡ part ++ newline ∷ joined newline all) λ line more. refl
 
 tasks-joined : (l : List Task) → tasksText l ≡ joined newline (taskLines l)
 tasks-joined [] = refl
 tasks-joined (τ ∷ l) =
     append-assoc (lineText τ) (newline ∷ []) (tasksText l)
     ∙ ap (λ t. lineText τ ++ newline ∷ t) (tasks-joined l)
-    ∙ sym (joined-on (lineText τ) l)
+    ∙ sym (joined-on (lineText τ) Wide l)
 
-pub lines-joined : (p : Policy) (l : List Task) → text p l ≡ joined newline (policyText p ∷ taskLines l)
-lines-joined p l = ap (λ t. policyText p ++ newline ∷ t) (tasks-joined l) ∙ sym (joined-on (policyText p) l)
+list-joined : (c : Card) (l : List Task) → cardLine c ++ tasksText l ≡ joined newline (listLines c l)
+list-joined Wide l = tasks-joined l
+list-joined SmallCard l = ap (λ t. cardText ++ newline ∷ t) (tasks-joined l) ∙ sym (joined-on cardText Wide l)
+
+pub lines-joined : (c : Card) (p : Policy) (l : List Task) → text c p l ≡ joined newline (policyText p ∷ listLines c l)
+lines-joined c p l = ap (λ t. policyText p ++ newline ∷ t) (list-joined c l) ∙ sym (joined-on (policyText p) c l)
 
 digits-without : (mark : ℕ) → mark < nought → (s : List ℕ) → All IsDigit s → Without mark s
 digits-without mark low [] h = refl
@@ -94,11 +114,15 @@ lines-without [] = (refl, tt)
 lines-without (τ ∷ l) =
     (ap (has newline) (fields-joined τ) ∙ without-joined newline space refl (fields τ) (fields-without newline (omega arith) refl τ), lines-without l)
 
+list-without : (c : Card) (l : List Task) → All (Without newline) (listLines c l)
+list-without Wide l = lines-without l
+list-without SmallCard l = (refl, lines-without l)
+
 policy-without : (p : Policy) → Without newline (policyText p)
 policy-without ListOrder = refl
 policy-without RateMonotonic = refl
 policy-without DeadlineMonotonic = refl
 policy-without Edf = refl
 
-pub text-lines : (p : Policy) (l : List Task) → parts newline (text p l) ≡ policyText p ∷ taskLines l
-text-lines p l = ap (parts newline) (lines-joined p l) ∙ parts-joined newline (policyText p) (taskLines l) (policy-without p, lines-without l)
+pub text-lines : (c : Card) (p : Policy) (l : List Task) → parts newline (text c p l) ≡ policyText p ∷ listLines c l
+text-lines c p l = ap (parts newline) (lines-joined c p l) ∙ parts-joined newline (policyText p) (listLines c l) (policy-without p, list-without c l)

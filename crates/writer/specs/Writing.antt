@@ -1,10 +1,12 @@
--- The text of a policy and a list. Request #101.
+-- The text of a policy, a card and a list. Requests #101 and #105.
 use mathlib.Core.Path.{_≡_}
 use mathlib.Core.Bool.{Bool, true, false, _||_}
 use mathlib.Core.List.{List, [], _∷_, _++_}
 use Prim.Native.Nat.{ℕ}
 use lib.Dec.{ltb}
 use lib.ListN.{length, drop}
+use Rattle.card.specs.declared.Card.{Card}
+use Rattle.card.specs.declared.Card.the-variants.{Wide, Small}
 use Rattle.task.specs.declared.Task.{Task}
 use Rattle.task.specs.Limits.{mostTasks}
 use Rattle.schedule.specs.declared.Policy.{Policy}
@@ -13,7 +15,7 @@ use Rattle.decimal.specs.Decimal.{decimal}
 use Rattle.writer.specs.declared.Saved.{Saved}
 use Rattle.writer.specs.declared.Saved.the-variants.{Length, Refused}
 use Rattle.line.specs.Lines.{largestNumber}
-use Rattle.line.specs.Kinds.{policyText}
+use Rattle.line.specs.Kinds.{policyText, cardText}
 
 abbrev pub fieldText : ℕ → List ℕ
 fieldText n = space ∷ decimal n
@@ -25,8 +27,13 @@ abbrev pub tasksText : List Task → List ℕ
 tasksText [] = []
 tasksText (τ ∷ l) = taskText τ ++ tasksText l
 
-abbrev pub text : Policy → List Task → List ℕ
-text p l = policyText p ++ newline ∷ tasksText l
+-- a wide card has no line
+abbrev pub cardLine : Card → List ℕ
+cardLine Wide = []
+cardLine Small = cardText ++ newline ∷ []
+
+abbrev pub text : Card → Policy → List Task → List ℕ
+text c p l = policyText p ++ newline ∷ (cardLine c ++ tasksText l)
 
 abbrev pub isLarge : Task → Bool
 isLarge τ = ltb largestNumber (τ .offset) || ltb largestNumber (τ .run) || ltb largestNumber (τ .deadline) || ltb largestNumber (τ .period)
@@ -45,14 +52,14 @@ savedNumber (Length n) = n
 savedNumber Refused = 13
 
 -- `buffer` is as it was lent, `left` as it is left
-module _ (p : Policy) (l : List Task) (buffer : List ℕ) (r : Saved) (left : List ℕ) where
+module _ (c : Card) (p : Policy) (l : List Task) (buffer : List ℕ) (r : Saved) (left : List ℕ) where
   pub record IsRefused : Type 0 where
     pub is-refused : r ≡ Refused
     pub kept : left ≡ buffer
 
   pub record IsWritten : Type 0 where
-    pub is-length : r ≡ Length (length (text p l))
-    pub later-kept : left ≡ text p l ++ drop (length (text p l)) buffer
+    pub is-length : r ≡ Length (length (text c p l))
+    pub later-kept : left ≡ text c p l ++ drop (length (text c p l)) buffer
 
   abbrev pub either : Bool → Type 0
   either true = IsRefused
@@ -60,4 +67,4 @@ module _ (p : Policy) (l : List Task) (buffer : List ℕ) (r : Saved) (left : Li
 
   -- refused exactly where the list can't be written or the lent buffer is too short
   abbrev pub SavedAs : Type 0
-  SavedAs = either (unwritable l || ltb (length buffer) (length (text p l)))
+  SavedAs = either (unwritable l || ltb (length buffer) (length (text c p l)))

@@ -1,4 +1,4 @@
-// The text of a policy and a list, laid into a buffer.
+// The text of a policy, a card and a list, laid into a buffer.
 ghost use mathlib.Core.Path.{_≡_};
 ghost use mathlib.Core.List.{[], _∷_, _++_};
 ghost use Prim.Native.Nat.{_≤_};
@@ -7,16 +7,24 @@ ghost use Rattle.task.specs.Limits.{mostTasks};
 ghost use Rattle.decimal.specs.Bytes.{newline};
 ghost use Rattle.decimal.specs.Laying.{Laid};
 ghost use Rattle.line.specs.Kinds.{policyText};
-ghost use Rattle.writer.specs.Writing.{text, taskText, fieldText, isLarge, anyLarge};
+ghost use Rattle.writer.specs.Writing.{text, cardLine, taskText, fieldText, isLarge, anyLarge};
+use card::Card;
 use line::LARGEST_NUMBER;
 use schedule::Policy;
 use task::Task;
 
-pub(crate) fn text(items: [Task; Task::MOST], count: usize, policy: Policy, out: &mut [u8]) -> usize
+pub(crate) fn text(
+    items: [Task; Task::MOST],
+    count: usize,
+    card: Card,
+    policy: Policy,
+    out: &mut [u8],
+) -> usize
     requires { ⌜ count ≤ mostTasks ⌝ }
-    ensures { λ r. ⌜ Laid 0 (text policy (take count items)) (now (out .entry)) r (now (out .exit)) ⌝ }
+    ensures { λ r. ⌜ Laid 0 (text card policy (take count items)) (now (out .entry)) r (now (out .exit)) ⌝ }
 {
-    let mut at = first(policy, out);
+    let second = first(policy, out);
+    let mut at = card_line(card, out, second);
     for i in 0..count {
         at = task(items[i], out, at);
     }
@@ -31,6 +39,16 @@ fn first(policy: Policy, out: &mut [u8]) -> usize
         Policy::RateMonotonic => decimal::word(out, 0, b"policy rm\n"),
         Policy::DeadlineMonotonic => decimal::word(out, 0, b"policy dm\n"),
         Policy::Edf => decimal::word(out, 0, b"policy edf\n"),
+    }
+}
+
+// The small card's line. A wide card has none.
+fn card_line(card: Card, out: &mut [u8], at: usize) -> usize
+    ensures { λ r. ⌜ Laid at (cardLine card) (now (out .entry)) r (now (out .exit)) ⌝ }
+{
+    match card {
+        Card::Wide => at,
+        Card::Small => decimal::word(out, at, b"card small\n"),
     }
 }
 

@@ -1,4 +1,4 @@
-// The text of a list, written. Request #101.
+// The text of a list, written. Requests #101 and #105.
 mod lay;
 
 ghost use mathlib.Core.Path.{_≡_};
@@ -6,6 +6,7 @@ ghost use mathlib.Core.List.{List};
 ghost use Rattle.task.specs.declared.Task.{Task};
 ghost use Rattle.task.specs.Arrays.{Holds};
 ghost use Rattle.writer.specs.Writing.{SavedAs, savedNumber};
+use card::Card;
 use schedule::Policy;
 use task::Task;
 use task::list::Tasks;
@@ -28,9 +29,9 @@ impl Saved {
     }
 }
 
-// Writes the text of a policy and a list, unless the list can't be written or the text does not fit.
-pub fn write(list: Tasks, policy: Policy, out: &mut [u8]) -> Saved
-    ensures { λ r. ⌜ ((l : List Task) → Holds list l → SavedAs policy l (now (out .entry)) r (now (out .exit))) ⌝ }
+// Writes the text of a policy, a card and a list, unless the list can't be written or the text does not fit.
+pub fn write(list: Tasks, card: Card, policy: Policy, out: &mut [u8]) -> Saved
+    ensures { λ r. ⌜ ((l : List Task) → Holds list l → SavedAs card policy l (now (out .entry)) r (now (out .exit))) ⌝ }
 {
     let items = list.items;
     let count = list.count;
@@ -41,9 +42,9 @@ pub fn write(list: Tasks, policy: Policy, out: &mut [u8]) -> Saved
         return Saved::Refused;
     }
     // Measured first, by laying it into no buffer.
-    let n = lay::text(items, count, policy, &mut [0u8; 0]);
+    let n = lay::text(items, count, card, policy, &mut [0u8; 0]);
     if out.len() < n {
         return Saved::Refused;
     }
-    Saved::Length(lay::text(items, count, policy, out))
+    Saved::Length(lay::text(items, count, card, policy, out))
 }

@@ -1,8 +1,9 @@
 //! Both programs on the same case and the same buffers, compared word by word.
 
+use super::entries::by_library;
 use super::lent::{Buffers, Lent};
 use crate::case::Case;
-use crate::paper::{self, Answer, TASK_WORDS};
+use crate::paper::Answer;
 use crate::random::Random;
 use crate::verdict::Verdict;
 use std::fmt::Display;
@@ -42,55 +43,6 @@ fn code_and_row(answer: Answer) -> (u64, Vec<u64>) {
     }
 }
 
-/// The library's entries, each over the same case and buffers, with its name.
-pub fn by_library(case: &Case, buffers: &Buffers) -> Vec<(&'static str, Outcome)> {
-    let mut outcomes = vec![("words", by_words(case, buffers.clone()))];
-    // Words that are left over are no task, so there is nothing to lend as tasks.
-    if case.list.len().is_multiple_of(TASK_WORDS) {
-        outcomes.push(("tasks", by_tasks(case, buffers.clone())));
-    }
-    outcomes
-}
-
-fn by_words(case: &Case, mut buffers: Buffers) -> Outcome {
-    let code = sholakpite::check_words(
-        case.policy,
-        buffers.list.part(),
-        buffers.startup.part_mut(),
-        buffers.cycle.part_mut(),
-        buffers.row.part_mut(),
-    );
-    Outcome { code, buffers }
-}
-
-fn by_tasks(case: &Case, mut buffers: Buffers) -> Outcome {
-    let list: Vec<sholakpite::Task> = paper::tasks_of(&case.list).iter().map(lend).collect();
-    let code = sholakpite::check_tasks(
-        case.policy,
-        &list,
-        buffers.startup.part_mut(),
-        buffers.cycle.part_mut(),
-        buffers.row.part_mut(),
-    );
-    // Written back, so that a task that was changed is seen.
-    let words: Vec<u64> = list.iter().flat_map(words_of).collect();
-    buffers.list.part_mut().copy_from_slice(&words);
-    Outcome { code, buffers }
-}
-
-fn lend(task: &paper::Task) -> sholakpite::Task {
-    sholakpite::Task {
-        offset: task.offset,
-        run: task.run,
-        deadline: task.deadline,
-        period: task.period,
-    }
-}
-
-fn words_of(task: &sholakpite::Task) -> [u64; TASK_WORDS] {
-    [task.offset, task.run, task.deadline, task.period]
-}
-
 /// Runs one case through the walk and every entry; what differs, with what it was found on.
 pub fn compare(case: &Case, verdict: &Verdict, random: &mut Random) -> Vec<String> {
     let buffers = Buffers::for_case(random, case);
@@ -114,9 +66,10 @@ pub fn compare(case: &Case, verdict: &Verdict, random: &mut Random) -> Vec<Strin
 pub fn try_again(case: &Case) -> String {
     let words: Vec<String> = case.list.iter().map(u64::to_string).collect();
     format!(
-        "--try \"{} {}\" --startup {} --cycle {} --row {}",
+        "--try \"{} {}\" --card {} --startup {} --cycle {} --row {}",
         case.policy,
         words.join(" "),
+        case.card,
         case.startup_len,
         case.cycle_len,
         case.row_len

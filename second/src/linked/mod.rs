@@ -2,9 +2,12 @@
 
 mod arguments;
 mod compare;
+mod entries;
 mod lent;
 mod logs;
+mod periods;
 mod single;
+mod small;
 mod table;
 mod tally;
 mod texts;
@@ -28,9 +31,10 @@ pub fn run(options: &[Given], arguments: &Arguments) -> ExitCode {
     }
 }
 
-/// The paper's table first, then the random lists, texts and logs.
+/// The table and each period first, then the random lists, texts and logs.
 fn run_all(options: &Options, arguments: &Arguments) -> bool {
     let mut agreed = hold_table(arguments.seed);
+    agreed &= periods::hold_all(&mut Random::new(arguments.seed));
     // What is not asked for can't be missing.
     if options.lists > 0 {
         agreed &= timed(|| run_lists(options.lists, arguments));
@@ -47,10 +51,10 @@ fn run_all(options: &Options, arguments: &Arguments) -> bool {
 fn hold_table(seed: u64) -> bool {
     let failures = table::hold_all(&mut Random::new(seed));
     for failure in &failures {
-        println!("FAILED: the paper's list {failure}");
+        println!("FAILED: the table's list {failure}");
     }
     println!(
-        "the paper's table: {} lists and policies, {} failures",
+        "the table worked out by hand: {} lists and policies, {} failures",
         table::size(),
         failures.len()
     );

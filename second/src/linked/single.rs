@@ -1,7 +1,8 @@
 //! A single list, tried by both programs and printed with its tables.
 
 use super::arguments::Options;
-use super::compare::{by_library, by_walk, describe, differences, Outcome};
+use super::compare::{by_walk, describe, differences, Outcome};
+use super::entries::by_library;
 use super::lent::Buffers;
 use crate::case::{self, Case};
 use crate::random::Random;
@@ -13,7 +14,7 @@ pub fn try_one(words: &[u64], options: &Options, seed: u64) -> bool {
         println!("a list to try begins with its policy");
         return false;
     };
-    let mut case = Case::exact(policy, list.to_vec());
+    let mut case = Case::exact(options.card, policy, list.to_vec());
     case.startup_len = options.startup_len.unwrap_or(case.startup_len);
     case.cycle_len = options.cycle_len.unwrap_or(case.cycle_len);
     case.row_len = options.row_len.unwrap_or(case.row_len);

@@ -1,15 +1,17 @@
 //! How often each answer and each thing of interest came in a run.
 
+use super::small;
+use crate::card::Card;
 use crate::case::Case;
 use crate::counts::Counts;
 use crate::paper::{
-    self, Answer, MOST_HYPERPERIOD, MOST_OFFSET, MOST_TASKS, ROW_WORDS, TASK_WORDS,
+    self, Answer, Policy, MOST_HYPERPERIOD, MOST_OFFSET, MOST_TASKS, ROW_WORDS, TASK_WORDS,
 };
 use crate::verdict::Verdict;
 use std::collections::HashSet;
 
 /// Each line of the table, and whether a run without it fails.
-const LINES: [(&str, bool); 47] = [
+const LINES: [(&str, bool); 49] = [
     ("refused 1", true),
     ("refused 1, no task", true),
     ("refused 1, 17 tasks", true),
@@ -23,7 +25,9 @@ const LINES: [(&str, bool); 47] = [
     ("refused 7, startup one short", true),
     ("refused 8", true),
     ("refused 8, cycle one short", true),
+    ("refused 9", true),
     ("refused, and another refusal applies", true),
+    ("code 4, card above 1 alone", true),
     ("code 4, policy above 3 alone", true),
     ("code 4, words not a multiple of four alone", true),
     ("code 4, row shorter than eight alone", true),
@@ -59,17 +63,22 @@ const LINES: [(&str, bool); 47] = [
     ("row longer than eight words", true),
 ];
 
-const POLICIES: [&str; 4] = ["list order", "rate monotonic", "deadline monotonic", "EDF"];
+pub const POLICIES: [&str; 4] = ["list order", "rate monotonic", "deadline monotonic", "EDF"];
 
 pub struct Tally {
     pub counts: Counts,
-    seen: HashSet<(u64, Vec<u64>)>,
+    seen: HashSet<(u64, u64, Vec<u64>)>,
 }
 
 impl Tally {
     pub fn of_lists() -> Tally {
         Tally {
-            counts: Counts::of(LINES.map(|(line, required)| (line.to_string(), required))),
+            counts: Counts::of(
+                LINES
+                    .map(|(line, required)| (line.to_string(), required))
+                    .into_iter()
+                    .chain(small::lines()),
+            ),
             seen: HashSet::new(),
         }
     }
@@ -77,6 +86,7 @@ impl Tally {
     pub fn add(&mut self, case: &Case, verdict: &Verdict) {
         self.counts
             .note_if(case.row_len > ROW_WORDS, "row longer than eight words");
+        small::add(&mut self.counts, case, verdict);
         match verdict.answer {
             Answer::NotAsked => self.add_not_asked(case),
             Answer::Refused { number, .. } => self.add_refused(case, verdict, number),
@@ -98,13 +108,15 @@ impl Tally {
     }
 
     fn add_not_asked(&mut self, case: &Case) {
-        let policy = case.policy > 3;
+        let card = Card::of(case.card).is_none();
+        let policy = Policy::of(case.policy).is_none();
         let words = !case.list.len().is_multiple_of(TASK_WORDS);
         let row = case.row_len < ROW_WORDS;
-        self.counts.note(match (policy, words, row) {
-            (true, false, false) => "code 4, policy above 3 alone",
-            (false, true, false) => "code 4, words not a multiple of four alone",
-            (false, false, true) => "code 4, row shorter than eight alone",
+        self.counts.note(match [card, policy, words, row] {
+            [true, false, false, false] => "code 4, card above 1 alone",
+            [false, true, false, false] => "code 4, policy above 3 alone",
+            [false, false, true, false] => "code 4, words not a multiple of four alone",
+            [false, false, false, true] => "code 4, row shorter than eight alone",
             _ => "code 4, several reasons",
         });
     }
@@ -126,7 +138,7 @@ impl Tally {
             let short = case.cycle_len as u64 + 1 == needed(case).1;
             self.counts.note_if(short, "refused 8, cycle one short");
         }
-        let several = verdict.refusals > 1;
+        let several = verdict.refusals.len() > 1;
         self.counts
             .note_if(several, "refused, and another refusal applies");
     }
@@ -188,7 +200,8 @@ impl Tally {
         );
         let (startup, hyperperiod) = needed(case);
         let offset = startup - hyperperiod;
-        self.seen.insert((case.policy, case.list.clone()));
+        self.seen
+            .insert((case.card, case.policy, case.list.clone()));
         self.counts
             .note_if(offset > hyperperiod, "an offset beyond H, not refused");
         self.counts
@@ -201,7 +214,7 @@ impl Tally {
 
     pub fn print(&self) {
         self.counts.print();
-        let different = "different lists and policies, not refused";
+        let different = "different calls, not refused";
         println!("  {different:<46}{:>9}", self.seen.len());
     }
 }

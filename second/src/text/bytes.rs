@@ -21,7 +21,7 @@ pub const SPOILS: [(&str, Spoil); 12] = [
 ];
 
 /// Bytes that mean something in a text, or look as if they did.
-const TELLING: &[u8] = b"0123456789 \n\r\t\0-+.,_xXeEpPtTlrdmf\x0b\x0c\x1a\x85\xa0\xff";
+const TELLING: &[u8] = b"0123456789 \n\r\t\0-+.,_xXeEpPtTcCsSlrdmf\x0b\x0c\x1a\x85\xa0\xff";
 
 /// A byte to put into a text.
 fn telling(random: &mut Random) -> u8 {

@@ -123,7 +123,7 @@ fn carriage_returns(text: &mut Vec<u8>) {
 }
 
 /// Puts a line before any line from `first` on, or at the end.
-fn insert(random: &mut Random, text: &mut Vec<u8>, first: usize, line: &str) {
+pub fn insert(random: &mut Random, text: &mut Vec<u8>, first: usize, line: &str) {
     let mut lines = lines(text);
     let at = random.between(first.min(lines.len()) as u64, lines.len() as u64);
     lines.insert(at as usize, line.as_bytes().to_vec());
@@ -142,7 +142,7 @@ fn upper_case(text: &mut [u8]) {
 }
 
 /// Puts another first line in the place of the one there is.
-fn first(text: &mut Vec<u8>, line: &str) {
+pub fn first(text: &mut Vec<u8>, line: &str) {
     let mut lines = lines(text);
     lines[0] = line.as_bytes().to_vec();
     *text = lines.concat();

@@ -1,6 +1,6 @@
 //! Texts of every kind to hand over: good ones, damaged ones, long ones and noise.
 
-use super::{bytes, fields, listed, sizes};
+use super::{bytes, cards, fields, listed, sizes};
 use crate::random::Random;
 
 /// A text, and the name of how it was made.
@@ -10,6 +10,7 @@ pub struct Input {
 }
 
 const VALID: &str = "a list inside its limits";
+const UNTIMED: &str = "a small card, another period";
 const ANY: &str = "any list";
 const LONG_TABLES: &str = "M and H 16,384";
 const SEVERAL: &str = "several damages";
@@ -18,14 +19,16 @@ const RANDOM_BYTES: &str = "random bytes";
 const RANDOM_WORDS: &str = "random words";
 
 /// Words that a text is made of.
-const WORDS: [&str; 14] = [
-    "policy ", "policy", "list", "rm", "dm", "edf", "task ", "task", " ", "\n", "0", "1", "4", "01",
+const WORDS: [&str; 18] = [
+    "policy ", "policy", "list", "rm", "dm", "edf", "card ", "card", "small", "wide", "task ",
+    "task", " ", "\n", "0", "1", "4", "01",
 ];
 
 pub fn any(random: &mut Random) -> Input {
     let (bytes, made) = match random.below(1_000) {
         0..=1 => (listed::longest(random), LONG_TABLES.to_string()),
-        2..=299 => (listed::valid(random), VALID.to_string()),
+        2..=249 => (listed::valid(random), VALID.to_string()),
+        250..=299 => (listed::untimed(random), UNTIMED.to_string()),
         300..=399 => (listed::any(random), ANY.to_string()),
         400..=849 => damaged(random),
         850..=899 => limited(random),
@@ -37,9 +40,13 @@ pub fn any(random: &mut Random) -> Input {
 
 /// Every name that an input of at most this many bytes may have.
 pub fn names(longest: usize) -> Vec<String> {
-    let damages = bytes::SPOILS.iter().chain(&fields::SPOILS);
+    let damages = bytes::SPOILS
+        .iter()
+        .chain(&fields::SPOILS)
+        .chain(&cards::SPOILS);
     let plain = [
         VALID,
+        UNTIMED,
         ANY,
         LONG_TABLES,
         SEVERAL,
@@ -64,8 +71,9 @@ pub fn names(longest: usize) -> Vec<String> {
 
 fn damaged(random: &mut Random) -> (Vec<u8>, String) {
     let mut text = listed::valid(random);
-    let (name, spoil) = match random.below(3) {
+    let (name, spoil) = match random.below(4) {
         0 => random.pick(&bytes::SPOILS),
+        1 => random.pick(&cards::SPOILS),
         _ => random.pick(&fields::SPOILS),
     };
     spoil(random, &mut text);

@@ -1,6 +1,7 @@
 //! Lists as text: texts of every kind, a reader and a report of our own.
 
 mod bytes;
+mod cards;
 mod fields;
 pub mod files;
 pub mod inputs;
@@ -8,6 +9,7 @@ pub mod listed;
 pub mod reader;
 pub mod report;
 mod sizes;
+mod small;
 pub mod tally;
 pub mod writer;
 

@@ -1,5 +1,6 @@
 //! A list read from its text, line by line.
 
+use crate::card::Card;
 use crate::paper::{Task, TASK_WORDS};
 
 pub const LONGEST_INPUT: usize = 4_096;
@@ -10,9 +11,13 @@ const MOST_DIGITS: usize = 6;
 /// The policies' names, each at its number.
 pub const POLICIES: [&str; 4] = ["list", "rm", "dm", "edf"];
 
+/// The line of a list for a small card, right behind the policy's; a list for a wide card has none.
+pub const SMALL_LINE: &str = "card small\n";
+
 /// What a text says.
 #[derive(Clone, PartialEq, Debug)]
 pub struct Told {
+    pub card: Card,
     pub policy: u64,
     pub tasks: Vec<Task>,
 }
@@ -22,14 +27,25 @@ pub fn read(text: &[u8]) -> Result<Told, u64> {
     if text.len() > LONGEST_INPUT {
         return Err(0);
     }
-    let mut lines = text.split_inclusive(|&byte| byte == b'\n');
+    let lines = text.split_inclusive(|&byte| byte == b'\n');
+    let mut lines = (1_u64..).zip(lines).peekable();
     // Where there is no line at all, line 1 is the one that is missing.
-    let policy = lines.next().and_then(policy).ok_or(1_u64)?;
+    let first = lines.next().ok_or(1_u64)?;
+    let policy = policy(first.1).ok_or(first.0)?;
+    let is_small = |(_, line): &(u64, &[u8])| *line == SMALL_LINE.as_bytes();
+    let card = match lines.next_if(is_small) {
+        Some(_) => Card::Small,
+        None => Card::Wide,
+    };
     let mut tasks = Vec::new();
-    for (number, line) in (2_u64..).zip(lines) {
+    for (number, line) in lines {
         tasks.push(task(line).ok_or(number)?);
     }
-    Ok(Told { policy, tasks })
+    Ok(Told {
+        card,
+        policy,
+        tasks,
+    })
 }
 
 fn policy(line: &[u8]) -> Option<u64> {
@@ -66,19 +82,70 @@ mod tests {
     use super::*;
     use crate::paper::tasks_of;
 
-    fn told(policy: u64, words: &[u64]) -> Result<Told, u64> {
-        let tasks = tasks_of(words);
-        Ok(Told { policy, tasks })
+    fn told(card: Card, policy: u64, words: &[u64]) -> Result<Told, u64> {
+        Ok(Told {
+            card,
+            policy,
+            tasks: tasks_of(words),
+        })
     }
 
     #[test]
     fn a_readable_text_says_its_list() {
         let list_b = b"policy edf\ntask 0 2 4 4\ntask 1 1 2 4\n";
-        assert_eq!(read(list_b), told(3, &[0, 2, 4, 4, 1, 1, 2, 4]));
-        assert_eq!(read(b"policy list\n"), told(0, &[]));
-        assert_eq!(read(b"policy rm\n"), told(1, &[]));
+        assert_eq!(read(list_b), told(Card::Wide, 3, &[0, 2, 4, 4, 1, 1, 2, 4]));
+        assert_eq!(read(b"policy list\n"), told(Card::Wide, 0, &[]));
+        assert_eq!(read(b"policy rm\n"), told(Card::Wide, 1, &[]));
         let large = b"policy dm\ntask 999999 0 10 100000\n";
-        assert_eq!(read(large), told(2, &[999_999, 0, 10, 100_000]));
+        assert_eq!(read(large), told(Card::Wide, 2, &[999_999, 0, 10, 100_000]));
+    }
+
+    #[test]
+    fn a_card_line_behind_the_policy_says_that_the_card_is_small() {
+        let list_b = b"policy edf\ncard small\ntask 0 2 4 4\ntask 1 1 2 4\n";
+        let words = [0, 2, 4, 4, 1, 1, 2, 4];
+        assert_eq!(read(list_b), told(Card::Small, 3, &words));
+        assert_eq!(read(b"policy rm\ncard small\n"), told(Card::Small, 1, &[]));
+    }
+
+    #[test]
+    fn another_card_line_or_one_elsewhere_can_not_be_read() {
+        let lines = [
+            "card\n",
+            "card \n",
+            "card wide\n",
+            "card Small\n",
+            "Card small\n",
+            "card  small\n",
+            "card small \n",
+            " card small\n",
+            "card\tsmall\n",
+            "card small\r\n",
+            "card small 1\n",
+            "card smal\n",
+            "card smalls\n",
+            "cardsmall\n",
+            "card 1\n",
+            "card small\0\n",
+            "card small",
+        ];
+        for line in lines {
+            let text = format!("policy edf\n{line}task 0 1 1 1\n");
+            assert_eq!(read(text.as_bytes()), Err(2), "{line:?}");
+        }
+        let elsewhere = [
+            ("card small\npolicy edf\n", 1),
+            ("policy edf\ncard small\ncard small\n", 3),
+            ("policy edf\ntask 0 1 1 1\ncard small\n", 3),
+            ("policy edf\ncard small\ntask 0 1 1 1\ncard small\n", 4),
+            ("policy edf\ncard small", 2),
+            ("policy edf\n\ncard small\n", 2),
+            ("policy edf\ncard small\n\n", 3),
+            ("policy edf\ncard small\ntask 0 1 1\n", 3),
+        ];
+        for (text, line) in elsewhere {
+            assert_eq!(read(text.as_bytes()), Err(line), "{text:?}");
+        }
     }
 
     #[test]

@@ -25,7 +25,8 @@ impl Output {
 pub fn output(input: &[u8]) -> Output {
     let read = reader::read(input).map(|told| {
         // Tables are printed whole, so their buffers always have the lengths that they need.
-        let verdict = judge(&Case::exact(told.policy, words_of(&told.tasks)));
+        let list = words_of(&told.tasks);
+        let verdict = judge(&Case::exact(told.card.number(), told.policy, list));
         (told, verdict)
     });
     let text = match &read {
@@ -59,7 +60,7 @@ fn report(verdict: &Verdict) -> String {
         Answer::Missed { task, instant } => format!("missed {task} {instant}\n"),
         Answer::Overloaded { load, hyperperiod } => format!("overloaded {load} {hyperperiod}\n"),
         Answer::Refused { number, task } => format!("refused {number} {task}\n"),
-        Answer::NotAsked => unreachable!("a text names a known policy and whole tasks"),
+        Answer::NotAsked => unreachable!("a text names a known card and policy and whole tasks"),
     }
 }
 
@@ -82,12 +83,14 @@ mod tests {
     }
 
     #[test]
-    fn list_b_prints_the_papers_lines() {
-        assert_eq!(
-            printed("policy edf\ntask 0 2 4 4\ntask 1 1 2 4\n"),
-            "feasible\nhyperperiod 4\nload 3\nidle 1 1\npreemptions 2 1\n\
-             first 0 1 0 - 0\nagain 1 0 - 0\n"
-        );
+    fn list_b_prints_the_papers_lines_on_either_card() {
+        for card in ["", "card small\n"] {
+            assert_eq!(
+                printed(&format!("policy edf\n{card}task 0 2 4 4\ntask 1 1 2 4\n")),
+                "feasible\nhyperperiod 4\nload 3\nidle 1 1\npreemptions 2 1\n\
+                 first 0 1 0 - 0\nagain 1 0 - 0\n"
+            );
+        }
     }
 
     #[test]
@@ -120,6 +123,14 @@ mod tests {
             ),
             ("policy edf\ntask 0 2 5 4\n", "refused 4 0\n"),
             ("policy edf\n", "refused 1 0\n"),
+            ("policy edf\ncard small\n", "refused 1 0\n"),
+            ("policy rm\ncard small\ntask 0 1 7 7\n", "refused 9 0\n"),
+            (
+                "policy edf\ncard small\ntask 0 1 4 4\ntask 0 0 9 9\n",
+                "refused 9 1\n",
+            ),
+            ("policy dm\ncard small\ntask 0 0 4 4\n", "refused 3 0\n"),
+            ("policy edf\ncard wide\ntask 0 1 1 1\n", "unread 2\n"),
             ("policy edf", "unread 1\n"),
             ("", "unread 1\n"),
         ];

@@ -1,7 +1,7 @@
 //! Texts of many bytes or many lines, with or without a line that can't be read.
 
 use super::bytes::{lines, Spoil};
-use super::reader::POLICIES;
+use super::reader::{POLICIES, SMALL_LINE};
 use crate::random::Random;
 
 /// The shortest and the longest line of a task.
@@ -52,7 +52,7 @@ pub fn shortest(length: Option<usize>) -> usize {
 /// A text of this length, to the byte.
 pub fn of_length(random: &mut Random, length: Option<usize>) -> Vec<u8> {
     let length = length.unwrap_or_else(|| random.pick(&FAR));
-    let mut text = policy(random);
+    let mut text = front(random);
     let longest = random.pick(&[SHORTEST, LONGEST, LONGEST]);
     loop {
         let left = length - text.len();
@@ -69,15 +69,17 @@ pub fn of_length(random: &mut Random, length: Option<usize>) -> Vec<u8> {
 
 /// A text of this many tasks, which fits into the limit.
 pub fn of_count(random: &mut Random, least: u64, most: u64) -> Vec<u8> {
-    let mut text = policy(random);
+    let mut text = front(random);
     for _ in 0..random.between(least, most) {
         text.extend(task(random, SHORTEST));
     }
     text
 }
 
-fn policy(random: &mut Random) -> Vec<u8> {
-    format!("policy {}\n", random.pick(&POLICIES)).into_bytes()
+/// The lines in front of the tasks.
+fn front(random: &mut Random) -> Vec<u8> {
+    let (policy, card) = (random.pick(&POLICIES), random.pick(&["", SMALL_LINE]));
+    format!("policy {policy}\n{card}").into_bytes()
 }
 
 /// The line of a task with any numbers, of this length.

@@ -3,12 +3,13 @@
 use super::inputs::{self, Input};
 use super::reader::{LONGEST_INPUT, POLICIES};
 use super::report::Output;
+use super::small;
 use crate::counts::Counts;
 use crate::paper::{Answer, IDLE, MOST_HYPERPERIOD, MOST_OFFSET, MOST_TASKS};
 use crate::verdict::Verdict;
 
 /// What comes of a text; a run without any of these fails, and so does one without a kind of text.
-const LINES: [&str; 31] = [
+const LINES: [&str; 32] = [
     "unread 0",
     "unread 1",
     "unread, a line from 2 to 17",
@@ -23,6 +24,7 @@ const LINES: [&str; 31] = [
     "refused 4",
     "refused 5",
     "refused 6",
+    "refused 9",
     "refused, a task past 9",
     "refused, and another refusal applies",
     "overloaded",
@@ -50,7 +52,7 @@ impl Tally {
     /// For texts of at most this many bytes.
     pub fn up_to(longest: usize) -> Tally {
         let mut lines = inputs::names(longest);
-        lines.extend(LINES.map(String::from));
+        lines.extend(LINES.into_iter().chain(small::LINES).map(String::from));
         Tally {
             counts: Counts::of(lines.into_iter().map(|line| (line, true))),
         }
@@ -59,8 +61,12 @@ impl Tally {
     pub fn add_text(&mut self, input: &Input, output: &Output) {
         self.counts.note(&input.made);
         match &output.read {
-            Err(line) => self.add_unread(*line),
+            Err(line) => {
+                self.add_unread(*line);
+                small::add_unread(&mut self.counts, &input.bytes, *line);
+            }
             Ok((told, verdict)) => {
+                small::add_read(&mut self.counts, told, verdict);
                 let tasks = told.tasks.len();
                 let policy = POLICIES[told.policy as usize];
                 self.add_verdict(verdict, policy, tasks, input.bytes.len());
@@ -91,7 +97,7 @@ impl Tally {
                 self.counts
                     .note_if(bytes == LONGEST_INPUT, "refused 1, 4,096 bytes");
                 self.counts.note_if(task > 9, "refused, a task past 9");
-                let several = verdict.refusals > 1;
+                let several = verdict.refusals.len() > 1;
                 self.counts
                     .note_if(several, "refused, and another refusal applies");
             }

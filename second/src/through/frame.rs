@@ -21,12 +21,13 @@ pub fn of(text: &[u8], random: &mut Random) -> Vec<u8> {
 /// What comes behind the text, again and again; most of it looks like more of the text.
 fn behind(random: &mut Random) -> Vec<u8> {
     let digit = random.below(10);
-    match random.below(6) {
+    match random.below(7) {
         0 => vec![random.pick(&[0, b' ', b'\n', 255])],
         1 => (0..LENGTH).map(|_| random.byte()).collect(),
         2 => format!("{digit}\n").into_bytes(),
         3 => format!("\ntask 0 1 1 {digit}").into_bytes(),
         4 => b"policy edf\ntask 0 2 4 4\ntask 1 1 2 4\n".to_vec(),
+        5 => b"card small\n".to_vec(),
         _ => format!("task {digit} 1 64 64\n").into_bytes(),
     }
 }

@@ -9,10 +9,10 @@ use Rattle.admission.proofs.admit.Statement.{statement}
 use Rattle.admission.proofs.admit.Tie as tie
 
 returns : tie.Need-returns
-returns c l h = none-refused l (c .before .args .startup) (c .before .args .cycle) (omega (arith, h .counted))
+returns c l h = none-refused (c .before .args .card) l (c .before .args .startup) (c .before .args .cycle) (omega (arith, h .counted))
 
 returns-2 : tie.Need-returns-2
-returns-2 c l h = many-refused l (c .before .before .args .startup) (c .before .before .args .cycle) (omega (arith, h .counted))
+returns-2 c l h = many-refused (c .before .before .args .card) l (c .before .before .args .startup) (c .before .before .args .cycle) (omega (arith, h .counted))
 
 by-task-requires : tie.Need-by-task-requires
 by-task-requires c κs = search needs

@@ -35,7 +35,7 @@ returns c =
     let x = k .before in
     let l = take (x .args .n) (x .args .items) in
     let n : length l ≡ x .args .n = length-take-le (x .args .n) (x .args .items) (omega (arith, x .good .0)) in
-    hyperperiod-refused l (x .args .startup) (x .args .cycle) (omega arith) (omega arith) (x .pre .1)
+    λ card ok. hyperperiod-refused card l (x .args .startup) (x .args .cycle) (omega arith) (omega arith) ok
     (is-above longestHyperperiod (hyperperiod l) (sym (k .hyperperiod .ensures) ∙ c .enum-told .given .1))
 
 returns-2 : tie.Need-returns-2

@@ -21,7 +21,7 @@ enum-told c = search needs
 by-hyperperiod-requires : tie.Need-by-hyperperiod-requires
 by-hyperperiod-requires c κs =
     let k = c .before .before in
-    (k .before .pre, sym (k .check-all .ensures) ∙ ap findingOf (c .enum-told .given .1))
+    (k .before .pre, (k .before .args .card, sym (k .check-all .ensures) ∙ ap findingOf (c .enum-told .given .1)))
 
 returns : tie.Need-returns
 returns c =
@@ -29,11 +29,14 @@ returns c =
     let x = k .before in
     let l = take (x .args .n) (x .args .items) in
     let n : length l ≡ x .args .n = length-take-le (x .args .n) (x .args .items) (omega (arith, x .good .0)) in
-    task-refused l (x .args .startup) (x .args .cycle) (omega arith) (omega arith) _ _
+    task-refused (x .args .card) l (x .args .startup) (x .args .cycle) (omega arith) (omega arith) _ _
     (sym (k .check-all .ensures) ∙ ap findingOf (c .before .found .given .1))
 
 returns-2 : tie.Need-returns-2
-returns-2 c = search needs
+returns-2 c =
+    let e = c .before in
+    let k = e .before .before in
+    c .by-hyperperiod .ensures (k .before .args .card) (sym (k .check-all .ensures) ∙ ap findingOf (e .enum-told .given .1))
 
 pub by-task-spec : {M : Type 1} → statement M
 by-task-spec =

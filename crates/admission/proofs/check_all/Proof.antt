@@ -10,10 +10,10 @@ use Rattle.admission.proofs.check_all.Statement.{statement}
 use Rattle.admission.proofs.check_all.Tie as tie
 
 abbrev Inv-loop : tie.InvT-loop
-Inv-loop n items i₀ i = (i ≤ n) × (tasksRefusal 0 (take n items) ≡ tasksRefusal i (drop i (take n items)))
+Inv-loop n card items i₀ i = (i ≤ n) × (tasksRefusal card 0 (take n items) ≡ tasksRefusal card i (drop i (take n items)))
 
 abbrev μ-loop : tie.MeasureT-loop
-μ-loop n items i₀ i = n - i
+μ-loop n card items i₀ i = n - i
 
 loop-holds : tie.Need-loop-holds Inv-loop μ-loop
 loop-holds c = (omega arith, refl)
@@ -34,7 +34,7 @@ returns : tie.Need-returns Inv-loop μ-loop
 returns c =
     let l = c .before .before .before .before .before .before in
     let x = l .before in
-    refused-here (x .args .t1) (x .args .n) (omega (arith, x .good .0)) (l .loop .i) (omega arith) (c .before .before .before .check .result) (c .before .before .before .check .ensures) (l .loop .inv .1) _ _ (c .before .found .given .1)
+    refused-here (x .args .card) (x .args .t1) (x .args .n) (omega (arith, x .good .0)) (l .loop .i) (omega arith) (c .before .before .before .check .result) (c .before .before .before .check .ensures) (l .loop .inv .1) _ _ (c .before .found .given .1)
 
 enum-told : tie.Need-enum-told Inv-loop μ-loop
 enum-told c = search needs
@@ -49,13 +49,13 @@ loop-again : tie.Need-loop-again Inv-loop μ-loop
 loop-again c =
     let l = c .before .before .before .before .before in
     let x = l .before in
-    (omega arith, sound-here (x .args .t1) (x .args .n) (omega (arith, x .good .0)) (l .loop .i) (omega arith) (c .before .before .check .result) (c .before .before .check .ensures) (l .loop .inv .1) (c .enum-told .given .1))
+    (omega arith, sound-here (x .args .card) (x .args .t1) (x .args .n) (omega (arith, x .good .0)) (l .loop .i) (omega arith) (c .before .before .check .result) (c .before .before .check .ensures) (l .loop .inv .1) (c .enum-told .given .1))
 
 returns-2 : tie.Need-returns-2 Inv-loop μ-loop
 returns-2 c =
     let x = c .before .before in
     let e : c .before .loop .i ≡ x .args .n = omega arith in
-    sound-all (x .args .t1) (x .args .n) (omega (arith, x .good .0)) (rw e at (c .before .loop .inv .1))
+    sound-all (x .args .card) (x .args .t1) (x .args .n) (omega (arith, x .good .0)) (rw e at (c .before .loop .inv .1))
 
 pub check-all-spec : {M : Type 1} → statement M
 check-all-spec =

@@ -53,7 +53,7 @@ array-share-prefix-out c = search needs
 slice-aggregate-send-3 : tie.Need-slice-aggregate-send-3
 slice-aggregate-send-3 c =
     let n = c .before .before .before in
-    sym (length-take-le (n .n .given .0 .0) (n .before .before .before .write .last .1 .1 .0) (search needs))
+    sym (length-take-le (n .n .given .0 .0) (n .before .before .before .write .last .1 .1 .1 .0) (search needs))
 
 send-requires-3 : tie.Need-send-requires-3
 send-requires-3 c κs = search needs

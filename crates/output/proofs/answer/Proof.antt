@@ -40,7 +40,7 @@ returns-2 c =
     let f = u .before .before .before in
     let d = f .before .before .before in
     let x = d .before .before .before in
-    let t = told-listed (d .read .result) (reading (x .args .input .now)) (f .found2 .given .0 .0) (d .read .ensures) (f .found2 .given .1) in
+    let t = told-listed (d .read .result) (reading (x .args .input .now)) (f .found2 .given .0 .0) (f .found2 .given .0 .1 .0) (d .read .ensures) (f .found2 .given .1) in
     rw (t .1) (u .checked .ensures (t .0) (t .2))
 
 pub answer-spec : {M : Type 1} → statement M

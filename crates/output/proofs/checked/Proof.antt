@@ -32,8 +32,8 @@ returns c =
     let r = c .before .before in
     let k = r .before .before .before .before .before .before in
     λ l holds. record {
-      output = report (row (k .check .result)) (k .check .last .1 .1 .0) (k .check .last .1 .1 .1 .0);
-      is-output = record { answer = k .check .result; startup = k .check .last .1 .1 .0; cycle = k .check .last .1 .1 .1 .0; promised = k .check .ensures l holds; is-report = refl };
+      output = report (row (k .check .result)) (k .check .last .1 .1 .1 .0) (k .check .last .1 .1 .1 .1 .0);
+      is-output = record { answer = k .check .result; startup = k .check .last .1 .1 .1 .0; cycle = k .check .last .1 .1 .1 .1 .0; promised = k .check .ensures l holds; is-report = refl };
       wrote = r .report .ensures;
     }
 

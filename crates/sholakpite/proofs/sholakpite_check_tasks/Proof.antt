@@ -1,5 +1,5 @@
 -- `sholakpite_check_tasks` meets its contract: a walk of its MIR, by hand. The list is copied, and the copy, the policy and the three borrows are passed on for good.
--- All that it knows of `lent::load` and of `answered` is that each meets its contract.
+-- All that it knows of `lent::load` and of `on_wide` is that each meets its contract.
 use mathlib.Core.Path.{_≡_, refl}
 use mathlib.Core.List.{List, [], _∷_}
 use Prim.Native.Nat.{ℕ}
@@ -40,7 +40,7 @@ use Rattle.task.specs.declared.Task.{Task}
 use Rattle.task.specs.declared.list.Tasks.{Tasks}
 use Rattle.task.specs.Arrays.{Holds, arrayOf}
 use Rattle.task.proofs.Copied.{held-array}
-use Rattle.words.specs.Words.{Answered}
+use Rattle.words.specs.Words.{wideCard, Answered}
 use Rattle.task.proofs.Task as T
 use Rattle.task.proofs.list.Tasks as S
 use Rattle.task.proofs.list.Tasks.Laws as S′
@@ -48,10 +48,10 @@ use Rattle.lent.proofs.load as load′
 use Rattle.lent.proofs.load.Symbol as load-def
 use Rattle.lent.proofs.load.Symbol.{name as #lent·load}
 use Rattle.lent.proofs.load.Met as load-thm
-use Rattle.words.proofs.answered as answered
-use Rattle.words.proofs.answered.Symbol as answered-def
-use Rattle.words.proofs.answered.Symbol.{name as #answered}
-use Rattle.words.proofs.answered.Met as answered-thm
+use Rattle.words.proofs.on_wide as answered
+use Rattle.words.proofs.on_wide.Symbol as answered-def
+use Rattle.words.proofs.on_wide.Symbol.{name as #answered}
+use Rattle.words.proofs.on_wide.Met as answered-thm
 use Rattle.sholakpite.proofs.sholakpite_check_tasks.Key.{name as #top}
 use Rattle.sholakpite.proofs.sholakpite_check_tasks as top
 use Rattle.sholakpite.proofs.sholakpite_check_tasks.Statement as stated
@@ -129,13 +129,13 @@ module _ {M : Type 1} (𝓤 : URA M) (H : Heap 𝓤) (A : Atoms 𝓤) (W : Given
   goes-answered r u = qed W (Tokens ∷ ‵ Rest ∷ ‵ (S.the-row .own r (u ∷ [])) ∷ []) ∵ move ! (2 ∷ 1 ∷ []) $ fjoin ! $ move ! (1 ∷ 0 ∷ []) $ join ! $ frame ! $ done !
 
   abbrev Told : Tasks → ℕ → List ℕ → List ℕ → List ℕ → Type 0
-  Told r n xs ys zs = (l : List Task) → Holds r l → Answered p l (x .now) (y .now) (z .now) n xs ys zs
+  Told r n xs ys zs = (l : List Task) → Holds r l → Answered wideCard p l (x .now) (y .now) (z .now) n xs ys zs
 
   -- the copy holds the list
-  told : (r : Tasks) (n : ℕ) (xs ys zs : List ℕ) → r ≡ arrayOf (s .now) → Told r n xs ys zs → Answered p (s .now) (x .now) (y .now) (z .now) n xs ys zs
+  told : (r : Tasks) (n : ℕ) (xs ys zs : List ℕ) → r ≡ arrayOf (s .now) → Told r n xs ys zs → Answered wideCard p (s .now) (x .now) (y .now) (z .now) n xs ys zs
   told r n xs ys zs e says′ = says′ (s .now) (rw e (held-array (s .now)))
 
-  exits : (n : ℕ) (u : Val) (xs ys zs : List ℕ) → Answered p (s .now) (x .now) (y .now) (z .now) n xs ys zs → length xs ≡ length (x .now) → length ys ≡ length (y .now) → length zs ≡ length (z .now)
+  exits : (n : ℕ) (u : Val) (xs ys zs : List ℕ) → Answered wideCard p (s .now) (x .now) (y .now) (z .now) n xs ys zs → length xs ≡ length (x .now) → length ys ≡ length (y .now) → length zs ≡ length (z .now)
       → ent 𝓤 (⋆ 𝓤 H A (‵ (u64 .own n (u ∷ [])) ∷ Tokens ∷ ‵ (finally u8 (x .name) xs) ∷ ‵ (finally u8 (y .name) ys) ∷ ‵ (finally u64 (z .name) zs) ∷ ‵ Own ∷ Token ∷ [])) (Post u)
   exits n u xs ys zs e l l′ l″ =
       qed W (‵ (u64 .own n (u ∷ [])) ∷ Tokens ∷ ‵ (finally u8 (x .name) xs) ∷ ‵ (finally u8 (y .name) ys) ∷ ‵ (finally u64 (z .name) zs) ∷ ‵ Own ∷ Token ∷ []) ∵
@@ -197,4 +197,4 @@ sholakpite-check-tasks-spec 𝓤 H 𝓜 𝓖 𝓡 =
     (tables 𝓤 H 𝓜 𝓡 code.env .C) (tables 𝓤 H 𝓜 𝓡 code.env .Λ) #top code.function (code.unfolded 𝓤 H 𝓜 𝓡)
     (top-meets 𝓤 H (𝓖 .A) (givenOf 𝓤 H 𝓜 𝓖) (𝓜 .mem) (𝓡 .run) (tablesOf 𝓤 H 𝓜 (tables 𝓤 H 𝓜 𝓡 code.env))
     (cited 𝓤 H (Load 𝓤 H (𝓖 .A) (𝓜 .mem) (𝓡 .run)) 𝓜 𝓡 code.env #lent·load load-def.routine code.calls-lent·load (load-thm.met 𝓤 H 𝓜 𝓖 𝓡))
-    (cited 𝓤 H (Answers 𝓤 H (𝓖 .A) (𝓜 .mem) (𝓡 .run)) 𝓜 𝓡 code.env #answered answered-def.routine code.calls-words·answered (answered-thm.met 𝓤 H 𝓜 𝓖 𝓡)))
+    (cited 𝓤 H (Answers 𝓤 H (𝓖 .A) (𝓜 .mem) (𝓡 .run)) 𝓜 𝓡 code.env #answered answered-def.routine code.calls-words·on-wide (answered-thm.met 𝓤 H 𝓜 𝓖 𝓡)))

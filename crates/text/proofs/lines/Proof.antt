@@ -1,13 +1,12 @@
 -- `lines` meets its contract: the first line, then the others.
 use mathlib.Core.Path.{_≡_, sym, _∙_, ap}
-use mathlib.Core.List.{[]}
 use Prim.Native.Nat.{_+_}
 use lib.ListN.{drop}
 use borrow.Author.Needs.{needs}
 use Rattle.decimal.specs.Bytes.{newline}
 use Rattle.line.specs.Lines.{parts}
 use Rattle.text.specs.Held.{held}
-use Rattle.text.specs.Reading.{unread, linesOf, tasksOn}
+use Rattle.text.specs.Reading.{unread, linesOf, cardOn}
 use Rattle.line.proofs.Places.{until-taken}
 use Rattle.text.proofs.Reading.{lines-torn, lines-first}
 use Rattle.text.proofs.lines.Statement.{statement}
@@ -50,11 +49,11 @@ returns-2 c =
     ∙ rw (c .before .enum-told .given .1) in
     c .unread2 .ensures ∙ sym (ap held is-unread)
 
-add-tasks : tie.Need-add-tasks
-add-tasks c = search needs
+add-cards : tie.Need-add-cards
+add-cards c = search needs
 
-tasks-requires : tie.Need-tasks-requires
-tasks-requires c κs = search needs
+cards-requires : tie.Need-cards-requires
+cards-requires c κs = search needs
 
 returns-3 : tie.Need-returns-3
 returns-3 c =
@@ -63,10 +62,10 @@ returns-3 c =
     let b = e .before in
     let s = b .before .before .args .s .now in
     let p = c .before .before .policy .given .0 .0 in
-    let goes-on : linesOf (parts newline s) ≡ tasksOn p [] 2 (parts newline (drop (b .before2 .result + 1) s)) =
+    let goes-on : linesOf (parts newline s) ≡ cardOn p (parts newline (drop (b .before2 .result + 1) s)) =
     lines-first s (b .before2 .result) (b .before2 .ensures) (e .if1 .left) (k .policy-of .result) (k .policy-of .ensures)
     ∙ rw (c .before .before .policy .given .1) in
-    c .tasks .ensures ∙ sym (ap held goes-on)
+    c .cards .ensures ∙ sym (ap held goes-on)
 
 pub lines-spec : {M : Type 1} → statement M
 lines-spec =
@@ -81,6 +80,6 @@ lines-spec =
     enum-told
     unread-requires-2
     returns-2
-    add-tasks
-    tasks-requires
+    add-cards
+    cards-requires
     returns-3)

@@ -17,10 +17,10 @@ use Rattle.text.proofs.tasks.Statement.{statement}
 use Rattle.text.proofs.tasks.Tie as tie
 
 abbrev Inv-loop : tie.InvT-loop
-Inv-loop s from policy at₀ n₀ own₀ at n own = Reads s policy from at n own
+Inv-loop s from card policy first at₀ n₀ own₀ at n own = Reads s card policy from first at n own
 
 abbrev μ-loop : tie.MeasureT-loop
-μ-loop s from policy at₀ n₀ own₀ at n own = length s - at
+μ-loop s from card policy first at₀ n₀ own₀ at n own = length s - at
 
 none-requires : tie.Need-none-requires Inv-loop μ-loop
 none-requires c κs = tt
@@ -28,7 +28,7 @@ none-requires c κs = tt
 loop-holds : tie.Need-loop-holds Inv-loop μ-loop
 loop-holds c =
     let x = c .before .before in
-    begun (x .args .s .now) (x .args .policy) (x .args .from) (c .none .result) (x .pre) (c .none .ensures)
+    begun (x .args .s .now) (x .args .card) (x .args .policy) (x .args .from) (x .args .first) (c .none .result) (x .pre .0) (x .pre .1) (c .none .ensures)
 
 sub-rest : tie.Need-sub-rest Inv-loop μ-loop
 sub-rest c = search needs
@@ -52,7 +52,7 @@ returns c =
     let x = b .before .before .before .before .before .before .args in
     c .unread .ensures
     ∙ sym (ap held (l .inv .goes-on
-    ∙ tasks-torn (x .policy) (l .inv .so-far) (l .n) (x .s .now) (l .at) (b .before2 .result) (search needs) (b .before2 .ensures) (c .before .if1 .taken)))
+    ∙ tasks-torn (x .card) (x .policy) (l .inv .so-far) (l .n) (x .s .now) (l .at) (b .before2 .result) (search needs) (b .before2 .ensures) (c .before .if1 .taken)))
 
 slice-aggregate-task-of : tie.Need-slice-aggregate-task-of Inv-loop μ-loop
 slice-aggregate-task-of c =
@@ -80,9 +80,9 @@ returns-2 c =
     let b = e .before in
     let l = b .before .before .before .loop in
     let x = b .before .before .before .before .before .before .args in
-    let is-unread : tasksOn (x .policy) [] 2 (parts newline (drop (x .from) (x .s .now))) ≡ unread (l .n) =
+    let is-unread : tasksOn (x .card) (x .policy) [] (x .first) (parts newline (drop (x .from) (x .s .now))) ≡ unread (l .n) =
     l .inv .goes-on
-    ∙ tasks-line (x .policy) (l .inv .so-far) (l .n) (x .s .now) (l .at) (b .before2 .result) (search needs) (b .before2 .ensures)
+    ∙ tasks-line (x .card) (x .policy) (l .inv .so-far) (l .n) (x .s .now) (l .at) (b .before2 .result) (search needs) (b .before2 .ensures)
     (e .if1 .left) (k .task-of .result) (k .task-of .ensures)
     ∙ rw (c .before .enum-told .given .1) in
     c .unread2 .ensures ∙ sym (ap held is-unread)
@@ -121,7 +121,7 @@ loop-again c =
     let x = b .before .before .before .before .before .before .args in
     one-more (l .inv) (b .before2 .result) (c .before .before .task .given .0 .0) (c .with .result) (omega (arith, add-at-2 c .fits))
     (behind-inside (x .s .now) (l .at) (b .before2 .result) (e .if1 .left))
-    (tasks-line (x .policy) (l .inv .so-far) (l .n) (x .s .now) (l .at) (b .before2 .result) (search needs) (b .before2 .ensures)
+    (tasks-line (x .card) (x .policy) (l .inv .so-far) (l .n) (x .s .now) (l .at) (b .before2 .result) (search needs) (b .before2 .ensures)
     (e .if1 .left) (k .task-of .result) (k .task-of .ensures)
     ∙ rw (c .before .before .task .given .1))
     (c .with .ensures)
@@ -130,8 +130,8 @@ returns-3 : tie.Need-returns-3 Inv-loop μ-loop
 returns-3 c =
     let l = c .before .loop in
     let x = c .before .before .before .before .args in
-    ap (λ (ts : Tasks). record { found = Listed (x .policy); tasks = ts }) (l .inv .held)
-    ∙ sym (ap held (l .inv .goes-on ∙ tasks-none (x .policy) (l .inv .so-far) (l .n) (x .s .now) (l .at) (c .loop-test .left)))
+    ap (λ (ts : Tasks). record { found = Listed (x .card) (x .policy); tasks = ts }) (l .inv .held)
+    ∙ sym (ap held (l .inv .goes-on ∙ tasks-none (x .card) (x .policy) (l .inv .so-far) (l .n) (x .s .now) (l .at) (c .loop-test .left)))
 
 pub tasks-spec : {M : Type 1} → statement M
 tasks-spec =

@@ -9,7 +9,7 @@ use Rattle.writer.proofs.write.Tie as tie
 returns : tie.Need-returns
 returns c =
     let x = c .before .before .before .args in
-    λ l holds. saved-many (x .policy) (x .list) l holds (x .out .now) (c .if1 .taken)
+    λ l holds. saved-many (x .card) (x .policy) (x .list) l holds (x .out .now) (c .if1 .taken)
 
 any-large-requires : tie.Need-any-large-requires
 any-large-requires c κs = search needs
@@ -18,7 +18,7 @@ returns-2 : tie.Need-returns-2
 returns-2 c =
     let k = c .before in
     let x = k .before .before .before .before .args in
-    λ l holds. saved-large (x .policy) (x .list) l holds (x .out .now) (k .before .if1 .left) (sym (k .any-large .ensures) ∙ c .if2 .taken)
+    λ l holds. saved-large (x .card) (x .policy) (x .list) l holds (x .out .now) (k .before .if1 .left) (sym (k .any-large .ensures) ∙ c .if2 .taken)
 
 slice-aggregate-text : tie.Need-slice-aggregate-text
 slice-aggregate-text c = search needs
@@ -32,7 +32,7 @@ returns-3 c =
     let e = t .before .before in
     let k = e .before in
     let x = k .before .before .before .before in
-    λ l holds. saved-short (x .args .policy) (x .args .list) l holds (x .args .out .now) (k .before .if1 .left) (sym (k .any-large .ensures) ∙ e .if2 .left)
+    λ l holds. saved-short (x .args .card) (x .args .policy) (x .args .list) l holds (x .args .out .now) (k .before .if1 .left) (sym (k .any-large .ensures) ∙ e .if2 .left)
     (omega (arith, x .good)) (t .text .ensures) (c .if3 .taken)
 
 text-requires-2 : tie.Need-text-requires-2
@@ -49,7 +49,7 @@ returns-4 c =
     let e = t .before .before in
     let k = e .before in
     let x = k .before .before .before .before in
-    λ l holds. saved-whole (x .args .policy) (x .args .list) l holds (x .args .out .now) (k .before .if1 .left) (sym (k .any-large .ensures) ∙ e .if2 .left)
+    λ l holds. saved-whole (x .args .card) (x .args .policy) (x .args .list) l holds (x .args .out .now) (k .before .if1 .left) (sym (k .any-large .ensures) ∙ e .if2 .left)
     (omega (arith, x .good)) (t .text .ensures) (f .if3 .left) (w .text2 .ensures)
 
 pub write-spec : {M : Type 1} → statement M

@@ -62,5 +62,6 @@ fn run_one(
 }
 
 fn tell_pair(pair: &Pair) -> String {
-    format!("to write: policy {}, list {:?}", pair.policy, pair.list)
+    let Pair { card, policy, list } = pair;
+    format!("to write: card {card}, policy {policy}, list {list:?}")
 }

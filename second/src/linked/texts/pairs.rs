@@ -1,12 +1,15 @@
-//! Random policies and lists to write: any words, any count, any policy.
+//! Random cards, policies and lists to write: any words, any count, any card and policy.
 
+use crate::card::{Card, CARDS};
 use crate::case::words_of;
+use crate::damage::unknown;
 use crate::paper::{self, MOST_TASKS, TASK_WORDS};
 use crate::random::Random;
 use crate::text::reader::{MOST_NUMBER, POLICIES};
 use crate::text::{listed, writer};
 
 pub struct Pair {
+    pub card: u64,
     pub policy: u64,
     pub list: Vec<u64>,
 }
@@ -14,8 +17,9 @@ pub struct Pair {
 impl Pair {
     /// The text as it would be if nothing were refused; its length is the room that is tried.
     pub fn text(&self) -> Vec<u8> {
+        let card = Card::of(self.card).unwrap_or(Card::Wide);
         let name = POLICIES.get(self.policy as usize).unwrap_or(&"");
-        writer::text(name, &paper::tasks_of(&self.list))
+        writer::text(card, name, &paper::tasks_of(&self.list))
     }
 }
 
@@ -36,24 +40,27 @@ const BORDERS: [u64; 12] = [
 ];
 
 pub fn any(random: &mut Random) -> Pair {
-    let mut policy = random.below(4);
+    let card = random.pick(&CARDS);
     let mut list = match random.below(4) {
-        0 => words_of(&listed::valid_tasks(random)),
+        0 => words_of(&listed::valid_tasks(random, card)),
         _ => numbers(random),
     };
+    let (mut card, mut policy) = (card.number(), random.below(paper::POLICY_COUNT));
     if random.once_in(3) && !list.is_empty() {
         let at = random.index(list.len());
         list[at] = random.pick(&BORDERS);
     }
     if random.once_in(10) {
-        let any = random.between(4, u64::MAX);
-        policy = random.pick(&[4, 5, 6, 7, 8, 9, 255, 256, 259, 1 << 32, any]);
+        card = unknown(random, CARDS.len() as u64);
+    }
+    if random.once_in(10) {
+        policy = unknown(random, paper::POLICY_COUNT);
     }
     if random.once_in(10) {
         let words = list.len() + random.between(1, 3) as usize;
         list.resize(words, random.below(10));
     }
-    Pair { policy, list }
+    Pair { card, policy, list }
 }
 
 /// Any number of tasks, often as many as a list may have or one more.

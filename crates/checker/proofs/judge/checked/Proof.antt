@@ -27,16 +27,16 @@ judged-requires c κs =
     let e = c .before .before .before in
     let a = e .before .before in
     let x = a .before .before .before in
-    let f = first-sound (list (x .args .items) (x .args .count)) (length (x .args .startup .now)) (length (x .args .cycle .now))
+    let f = first-sound (x .args .card) (list (x .args .items) (x .args .count)) (length (x .args .startup .now)) (length (x .args .cycle .now))
     (a .admit .result) (e .admitted2 .given .0 .0) (e .admitted2 .given .1) (a .admit .ensures) (omega (arith, x .good .0)) in
-    (f .0, (f .1, f .2))
+    (f .0, ((x .args .card, f .1), f .2))
 
 returns : tie.Need-returns
 returns c =
     let e = c .before in
     let a = e .before .before in
     let x = a .before .before .before in
-    λ l h. refused (x .args .policy) l (x .args .startup .now) (x .args .cycle .now) (a .admit .result) _ _ (e .admitted .given .1) (a .admit .ensures l h)
+    λ l h. refused (x .args .card) (x .args .policy) l (x .args .startup .now) (x .args .cycle .now) (a .admit .result) _ _ (e .admitted .given .1) (a .admit .ensures l h)
 
 same-length : tie.Need-same-length
 same-length c = search needs
@@ -50,8 +50,8 @@ returns-2 c =
     let e = j .before .before .before .before in
     let a = e .before .before in
     let x = a .before .before .before in
-    promised (list (x .args .items) (x .args .count)) (length (x .args .startup .now)) (length (x .args .cycle .now)) (a .admit .result) (e .admitted2 .given .0 .0)
-    (e .admitted2 .given .1) (a .admit .ensures) (x .args .policy) (x .args .startup .now) (x .args .cycle .now) _ _ (j .judged .result) (j .judged .ensures)
+    promised (x .args .card) (list (x .args .items) (x .args .count)) (length (x .args .startup .now)) (length (x .args .cycle .now)) (a .admit .result) (e .admitted2 .given .0 .0)
+    (e .admitted2 .given .1) (a .admit .ensures) (omega (arith, x .good .0)) (x .args .policy) (x .args .startup .now) (x .args .cycle .now) _ _ (j .judged .result) (j .judged .ensures (x .args .card))
 
 pub checked-spec : {M : Type 1} → statement M
 checked-spec =

@@ -1,6 +1,10 @@
-//! The paper's own lists and borders, to which both programs are held.
+//! Lists and borders worked out by hand, to which both programs are held.
 
-use super::compare::{by_library, by_walk, describe, differences, Outcome};
+mod paper;
+mod small;
+
+use super::compare::{by_walk, describe, differences, Outcome};
+use super::entries::by_library;
 use super::lent::{Buffers, Lent};
 use crate::case::Case;
 use crate::random::Random;
@@ -10,6 +14,7 @@ use std::fmt::Display;
 /// A list to try, with what the paper says of it; None where it says nothing.
 struct Tried {
     name: &'static str,
+    card: u64,
     policies: &'static [u64],
     tasks: &'static [[u64; 4]],
     startup_len: usize,
@@ -20,9 +25,9 @@ struct Tried {
     cycle: Option<&'static [u8]>,
 }
 
+const WIDE: u64 = 0;
+const SMALL: u64 = 1;
 const ANY: &[u64] = &[0, 1, 2, 3];
-const LIST_ORDER: &[u64] = &[0];
-const RATE: &[u64] = &[1];
 const EDF: &[u64] = &[3];
 const NONE: Option<u64> = None;
 const I: u8 = 255;
@@ -39,6 +44,7 @@ const fn feasible(
 ) -> Tried {
     Tried {
         name,
+        card: WIDE,
         policies,
         tasks,
         startup_len: lens.0,
@@ -56,11 +62,12 @@ const fn other(
     policies: &'static [u64],
     tasks: &'static [[u64; 4]],
     lens: (usize, usize),
-    answer: (u64, &'static [Option<u64>; 2]),
+    answer: (u64, &'static [Option<u64>]),
     startup: Option<&'static [u8]>,
 ) -> Tried {
     Tried {
         name,
+        card: WIDE,
         policies,
         tasks,
         startup_len: lens.0,
@@ -81,70 +88,22 @@ const fn refused(
     other(name, ANY, tasks, lens, (3, row), UNCHANGED)
 }
 
-#[rustfmt::skip]
-const TABLE: &[Tried] = &[
-    feasible("a", ANY, &[[0, 1, 1, 1]], (1, 1),
-        &[NONE, NONE, NONE, Some(0), Some(0), Some(0), Some(0)],
-        (Some(&[0]), Some(&[0]))),
-    feasible("b", EDF, LIST_B, (5, 4),
-        &[Some(1), Some(4), Some(3), Some(1), Some(1), Some(2), Some(1)],
-        (Some(&[0, 1, 0, I, 0]), Some(&[1, 0, I, 0]))),
-    feasible("c", EDF, &[[0, 2, 4, 4], [3, 2, 4, 4]], (7, 4),
-        &[NONE, NONE, NONE, Some(1), Some(0), Some(0), Some(0)],
-        (Some(&[0, 0, I, 1, 1, 0, 0]), Some(&[1, 1, 0, 0]))),
-    other("d", EDF, &[[0, 1, 1, 2], [0, 1, 1, 2]], (2, 2),
-        (1, &[Some(1), Some(1)]), Some(&[0])),
-    feasible("e", EDF, &[[0, 1, 1, 2], [1, 1, 1, 2]], (3, 2),
-        &[NONE; 7],
-        (Some(&[0, 1, 0]), Some(&[1, 0]))),
-    other("f", EDF, &[[0, 1, 1, 4]; 3], (4, 4),
-        (1, &[Some(1), Some(1)]), None),
-    other("g", EDF, &[[0, 1, 1, 4], [4, 1, 1, 4]], (8, 4),
-        (1, &[Some(1), Some(5)]), Some(&[0, I, I, I, 0])),
-    other("h", ANY, &[[0, 1, 1, 1], [0, 1, 2, 2]], (2, 2),
-        (2, &[Some(3), Some(2)]), UNCHANGED),
-    other("i", RATE, &[[0, 2, 5, 5], [0, 4, 7, 7]], (35, 35),
-        (1, &[Some(1), Some(7)]), Some(&[0, 0, 1, 1, 1, 0, 0])),
-    feasible("j", EDF, &[[0, 2, 5, 5], [0, 4, 7, 7]], (35, 35),
-        &[NONE, Some(35), Some(34), NONE, Some(1), NONE, NONE],
-        (None, None)),
-    other("k, list order", LIST_ORDER, &[[0, 4, 7, 7], [0, 2, 5, 5]], (35, 35),
-        (1, &[Some(1), Some(5)]), None),
-    other("k, rate monotonic", RATE, &[[0, 4, 7, 7], [0, 2, 5, 5]], (35, 35),
-        (1, &[Some(0), Some(7)]), None),
-    feasible("l", EDF, &[[1, 1, 3, 4], [0, 2, 4, 4]], (5, 4),
-        &[NONE, NONE, NONE, NONE, NONE, Some(0), Some(0)],
-        (Some(&[1, 1, 0, I, 1]), Some(&[1, 0, I, 1]))),
-    feasible("T 16,384 alone", ANY, &[[0, 1, 16_384, 16_384]], (16_384, 16_384),
-        &[NONE, Some(16_384), NONE, NONE, NONE, NONE, NONE],
-        (None, None)),
-    refused("T 16,385", &[[0, 1, 1, 16_385]], (5, 4), &[Some(2), Some(0)]),
-    feasible("T 127 and 129", ANY, &[[0, 1, 127, 127], [0, 1, 129, 129]], (16_383, 16_383),
-        &[NONE, Some(16_383), NONE, NONE, NONE, NONE, NONE],
-        (None, None)),
-    refused("T 128 and 129", &[[0, 1, 128, 128], [0, 1, 129, 129]], (16_512, 16_512),
-        &[Some(6), Some(0)]),
-    feasible("O 16,384", ANY, &[[16_384, 1, 4, 4]], (16_388, 4),
-        &[Some(16_384), NONE, NONE, NONE, NONE, NONE, NONE],
-        (None, None)),
-    refused("O 16,385", &[[16_385, 1, 4, 4]], (16_389, 4), &[Some(5), Some(0)]),
-    refused("C 0", &[[0, 0, 4, 4]], (4, 4), &[Some(3), Some(0)]),
-    refused("(0,6,5,4)", &[[0, 6, 5, 4]], (4, 4), &[Some(3), Some(0)]),
-    other("(0,2,5,4)", EDF, &[[0, 2, 5, 4]], (4, 4), (3, &[Some(4), Some(0)]), UNCHANGED),
-    refused("b, startup 4", LIST_B, (4, 4), &[Some(7), Some(0)]),
-    refused("b, cycle 3", LIST_B, (5, 3), &[Some(8), Some(0)]),
-    refused("b, startup 4 and cycle 3", LIST_B, (4, 3), &[Some(7), Some(0)]),
-    refused("17 tasks", &[[0, 1, 32, 32]; 17], (32, 32), &[Some(1), Some(0)]),
-    refused("17 tasks of zeros", &[[0; 4]; 17], (32, 32), &[Some(1), Some(0)]),
-    refused("17 tasks of huge words", &[[u64::MAX; 4]; 17], (32, 32), &[Some(1), Some(0)]),
-];
+/// The same list for another card.
+const fn on(card: u64, tried: Tried) -> Tried {
+    Tried { card, ..tried }
+}
 
-/// Holds the walk and the library to the whole table; says what is not held.
+/// The paper's lists, and those for a small card.
+fn all() -> impl Iterator<Item = &'static Tried> {
+    paper::TABLE.iter().chain(small::TABLE)
+}
+
+/// Holds the walk and the library to all of them; says what is not held.
 pub fn hold_all(random: &mut Random) -> Vec<String> {
     let mut failures = Vec::new();
-    for tried in TABLE {
+    for tried in all() {
         for &policy in tried.policies {
-            let name = format!("{}, policy {policy}", tried.name);
+            let name = format!("{}, card {}, policy {policy}", tried.name, tried.card);
             let found = hold(tried, policy, random);
             failures.extend(found.iter().map(|failure| format!("{name}, {failure}")));
         }
@@ -157,7 +116,7 @@ fn hold(tried: &Tried, policy: u64, random: &mut Random) -> Vec<String> {
     let case = Case {
         startup_len: tried.startup_len,
         cycle_len: tried.cycle_len,
-        ..Case::exact(policy, tried.tasks.concat())
+        ..Case::exact(tried.card, policy, tried.tasks.concat())
     };
     let before = Buffers::for_case(random, &case);
     let verdict = judge(&case);
@@ -172,7 +131,7 @@ fn hold(tried: &Tried, policy: u64, random: &mut Random) -> Vec<String> {
 }
 
 pub fn size() -> usize {
-    TABLE.iter().map(|tried| tried.policies.len()).sum()
+    all().map(|tried| tried.policies.len()).sum()
 }
 
 /// What an outcome has that the paper says otherwise.
