@@ -1,17 +1,17 @@
--- A table of periods: looked up number by number, and the rule of one that has all divisors of 240.
+-- A table of periods: looked up number by number, and the rule of one that passes a test, which is computed once for the whole table.
 use mathlib.Core.Path.{_≡_, refl, sym, ap, _∙_}
-use mathlib.Core.Bool.{Bool, true, false, _||_}
-use mathlib.Core.List.{List, [], _∷_, _++_}
+use mathlib.Core.Bool.{Bool, true, false, _&&_, true≢false}
+use mathlib.Core.List.{List, [], _∷_}
 use Prim.Native.Nat.{ℕ, zero, suc, _+_, _≤_, _<_}
 use native.Mathlib.Nat.{mod-eq-of-lt}
 use native.Mathlib.Decide.{decLt}
 use native.Mathlib.Omega.{arith}
 use native.Mathlib.Numerals.{add-one}
-use lib.Dec.{eqb}
+use lib.Dec.{eqb, leb}
 use lib.ListN.{length, drop, getD}
 use lib.Seq.{drop-cons, drop-length}
-use borrow.Author.Tests.{eq-eqb, ne-eqb}
-use Rattle.card.specs.Cards.{divides240}
+use borrow.Author.Tests.{leb-true, eq-eqb, ne-eqb}
+use Rattle.card.specs.Cards.{longestTimed, isDivisor}
 use Rattle.card.specs.Table.{isAmong}
 
 module _ (table : List ℕ) (period i : ℕ) (inside : i < length table) where
@@ -27,70 +27,72 @@ pub among-end : (table : List ℕ) (period : ℕ) → isAmong (drop (length tabl
 unfolding isAmong
 among-end table period = rw drop-length
 
-among-append : (s t : List ℕ) (period : ℕ) → isAmong (s ++ t) period ≡ (isAmong s period || isAmong t period)
-unfolding isAmong
-among-append [] t period = refl
-among-append (x ∷ s) t period = go (eqb x period) (among-append s t period)
-  where
-    go : (b : Bool) → isAmong (s ++ t) period ≡ (isAmong s period || isAmong t period)
-        → (b || isAmong (s ++ t) period) ≡ ((b || isAmong s period) || isAmong t period)
-    go true e = refl
-    go false e = e
+-- no number of the table is above 240
+unfoldable pub low : List ℕ → Bool
+low [] = true
+low (x ∷ table) = leb x longestTimed && low table
 
-unfoldable pub keptIf : Bool → ℕ → List ℕ
-keptIf true n = n ∷ []
-keptIf false n = []
+unfoldable pub agree : Bool → Bool → Bool
+agree true b = b
+agree false true = false
+agree false false = true
 
--- all divisors of 240 below n, in rising order
-unfoldable pub divisors : ℕ → List ℕ
-divisors zero = []
-divisors (suc n) = divisors n ++ keptIf (divides240 n) n
+-- of the numbers below n the table has the divisors of 240, and no other
+unfoldable pub exact : List ℕ → ℕ → Bool
+exact table zero = true
+exact table (suc n) = agree (isAmong table n) (isDivisor n) && exact table n
 
-kept-other : (b : Bool) (n period : ℕ) → (n ≡ period → ⊥) → isAmong (keptIf b n) period ≡ false
-unfolding isAmong keptIf
-kept-other true n period h = rw (ne-eqb n period h)
-kept-other false n period h = refl
+-- the test of a whole table
+unfoldable pub passes : List ℕ → Bool
+passes table = low table && exact table (suc longestTimed)
 
-kept-same : (b : Bool) (n : ℕ) → isAmong (keptIf b n) n ≡ b
-unfolding isAmong keptIf
-kept-same true n = rw (eq-eqb n n refl)
-kept-same false n = refl
+agreed : (a b : Bool) → agree a b ≡ true → a ≡ b
+unfolding agree
+agreed true b e = sym e
+agreed false true e = e
+agreed false false e = refl
 
-beyond : (n period : ℕ) → n ≤ period → isAmong (divisors n) period ≡ false
-unfolding divisors isAmong
-beyond zero period h = refl
-beyond (suc n) period h =
-    among-append (divisors n) _ period
-    ∙ rw (beyond n period (omega arith)) (kept-other (divides240 n) n period (λ e. omega arith))
+both : (a b : Bool) → (a && b) ≡ true → (a ≡ true) × (b ≡ true)
+both true b e = (refl, e)
+both false b e = (e, absurd (true≢false (sym e)))
 
-below : (n period : ℕ) → period < n → isAmong (divisors n) period ≡ divides240 period
-unfolding divisors
-below zero period h = absurd (omega arith)
-below (suc n) period h =
-    among-append (divisors n) _ period
-    ∙ elim (decLt period n) [
-      | yes q ↦ before q (below n period q)
-      | no q ↦ last (omega arith)
+above-none : (table : List ℕ) → low table ≡ true → (period : ℕ) → longestTimed < period → isAmong table period ≡ false
+unfolding low isAmong
+above-none [] e period h = refl
+above-none (x ∷ table) e period h =
+    let p = both (leb x longestTimed) (low table) e in
+    let n : x ≤ longestTimed = leb-true x longestTimed (p .0) in
+    rw (ne-eqb x period (λ q. omega arith), above-none table (p .1) period h)
+
+above-not : (period : ℕ) → longestTimed < period → isDivisor period ≡ false
+above-not period h = ap (λ (m : ℕ). eqb m 0) (mod-eq-of-lt h)
+
+below : (table : List ℕ) (n : ℕ) → exact table n ≡ true → (period : ℕ) → period < n → isAmong table period ≡ isDivisor period
+unfolding exact
+below table zero e period h = absurd (omega arith)
+below table (suc n) e period h =
+    let p = both (agree (isAmong table n) (isDivisor n)) (exact table n) e in
+    elim (decLt period n) [
+      | yes q ↦ below table n (p .1) period q
+      | no q ↦ last (omega arith) (agreed (isAmong table n) (isDivisor n) (p .0))
     ]
   where
-    or-no : (b : Bool) → (b || false) ≡ b
-    or-no true = refl
-    or-no false = refl
+    last : period ≡ n → isAmong table n ≡ isDivisor n → isAmong table period ≡ isDivisor period
+    last s x = rw s x
 
-    before : period < n → isAmong (divisors n) period ≡ divides240 period → (isAmong (divisors n) period || isAmong (keptIf (divides240 n) n) period) ≡ divides240 period
-    before q e = rw (kept-other (divides240 n) n period (λ s. omega arith)) (or-no _ ∙ e)
+-- what was found of a period in a table
+pub record Looked (found : Bool) (period : ℕ) : Type 0 where
+  pub table : List ℕ
+  pub is : found ≡ isAmong table period
 
-    last : period ≡ n → (isAmong (divisors n) period || isAmong (keptIf (divides240 n) n) period) ≡ divides240 period
-    last e = rw (e, beyond n n (omega arith)) (kept-same (divides240 n) n)
-
--- what is above 240 does not divide it
-above : (period : ℕ) → 240 < period → divides240 period ≡ false
-above period h = ap (λ (m : ℕ). eqb m 0) (mod-eq-of-lt h)
-
--- a table that is the computed one has exactly the divisors of 240, so a test for the table is one for them
-pub rule : (found : Bool) (table : List ℕ) (period : ℕ) → found ≡ isAmong table period → table ≡ divisors 241 → found ≡ divides240 period
-rule found table period is e = is ∙ ap (λ (t : List ℕ). isAmong t period) e ∙ go (decLt 240 period)
+-- a table that passes the test has exactly the divisors of 240
+pub rule : (found : Bool) (period : ℕ) (l : Looked found period) → passes (l .table) ≡ true → found ≡ isDivisor period
+unfolding passes
+rule found period l e = l .is ∙ go (decLt longestTimed period)
   where
-    go : Dec (240 < period) → isAmong (divisors 241) period ≡ divides240 period
-    go (yes h) = beyond 241 period (omega arith) ∙ sym (above period h)
-    go (no h) = below 241 period (omega arith)
+    p : (low (l .table) ≡ true) × (exact (l .table) (suc longestTimed) ≡ true)
+    p = both _ _ e
+
+    go : Dec (longestTimed < period) → isAmong (l .table) period ≡ isDivisor period
+    go (yes h) = above-none (l .table) (p .0) period h ∙ sym (above-not period h)
+    go (no h) = below (l .table) (suc longestTimed) (p .1) period (omega arith)

@@ -5,11 +5,15 @@ use lib.Dec.{eqb}
 use Rattle.card.specs.declared.Card.{Card}
 use Rattle.card.specs.declared.Card.the-variants.{Wide, Small}
 
--- T divides 240 (`divides-240`)
-abbrev pub divides240 : ℕ → Bool
-divides240 T = eqb (240 % T) 0
+-- the longest period that a small card can time
+abbrev pub longestTimed : ℕ
+longestTimed = 240
 
--- a wide card times every period, a small one the divisors of 240
+-- T divides it, in the library's sense (`divisor-divides`)
+abbrev pub isDivisor : ℕ → Bool
+isDivisor T = eqb (longestTimed % T) 0
+
+-- a wide card can time every period, a small one the divisors of 240
 abbrev pub isTimed : Card → ℕ → Bool
 isTimed Wide T = true
-isTimed Small T = divides240 T
+isTimed Small T = isDivisor T

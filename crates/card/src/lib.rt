@@ -1,6 +1,6 @@
 // The card that a list is for, and the periods that its timer has. Request #105.
 ghost use mathlib.Core.Path.{_≡_};
-ghost use Rattle.card.specs.Cards.{isTimed, divides240};
+ghost use Rattle.card.specs.Cards.{isTimed, isDivisor};
 ghost use Rattle.card.specs.Table.{isAmong};
 
 pub enum Card {
@@ -45,7 +45,7 @@ impl Card {
 }
 
 fn on_small(period: usize) -> bool
-    ensures { λ r. ⌜ r ≡ divides240 period ⌝ }
+    ensures { λ r. ⌜ r ≡ isDivisor period ⌝ }
 {
     let table = Card::TIMER_PERIODS;
     among(&table, period)
