@@ -7,3 +7,4 @@ pub mod Switches
 pub mod Tables
 pub mod Lookup
 pub mod Marked
+pub mod Cards

@@ -8,7 +8,6 @@ use words::NOT_UNDERSTOOD;
 use words::answered;
 use words::list;
 use words::list::tasks_of;
-use words::on_wide;
 
 // Checks a list of words, O C D T for each task, for a card and under a policy, both by number, and gives the answer's code; its values go into `row`.
 #[no_mangle]
@@ -68,5 +67,5 @@ pub extern "C" fn sholakpite_check_tasks(
 ) -> u64
     ensures { λ r. ⌜ Answered wideCard policy (now (list .entry)) (now (startup .entry)) (now (cycle .entry)) (now (row .entry)) r (now (startup .exit)) (now (cycle .exit)) (now (row .exit)) ⌝ }
 {
-    on_wide(lent::load(list), policy, startup, cycle, row)
+    sholakpite_check_tasks_card(list::WIDE, policy, list, startup, cycle, row)
 }

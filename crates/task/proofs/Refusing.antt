@@ -32,7 +32,7 @@ past : (b : Bool) (r : Refusal) (i : ℕ) → refusedIf b r i ≡ sound → b �
 past true r i e = absurd (not-sound e)
 past false r i e = refl
 
-both : (f g : Finding) → (f then g) ≡ sound → (f ≡ sound) × (g ≡ sound)
+pub both : (f g : Finding) → (f then g) ≡ sound → (f ≡ sound) × (g ≡ sound)
 both sound g e = (refl, e)
 both (refused n i) g e = absurd (not-sound e)
 

@@ -71,7 +71,7 @@ pub words-pinned : (card policy : ℕ) (list startup cycle words : List ℕ) (n 
 words-pinned card policy list startup cycle words n n′ s c w s′ c′ w′ =
     either-pinned card policy (tasksOf list) startup cycle words n n′ s c w s′ c′ w′ (ragged list || misread card policy words)
 
--- `answered` has one outcome, and so has `on_wide`: the array holds a list, and for that list there is one
+-- `answered` has one outcome: the array holds a list, and for that list there is one
 pub answered-pinned : (ts : Tasks) → length (ts .items) ≡ mostTasks → (card policy : ℕ) (startup cycle words : List ℕ) (n n′ : ℕ) (s c w s′ c′ w′ : List ℕ) →
     ((l : List Task) → Holds ts l → Answered card policy l startup cycle words n s c w) →
     ((l : List Task) → Holds ts l → Answered card policy l startup cycle words n′ s′ c′ w′) → (n ≡ n′) × (s ≡ s′) × (c ≡ c′) × (w ≡ w′)

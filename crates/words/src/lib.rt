@@ -5,7 +5,7 @@ mod row;
 ghost use mathlib.Core.List.{List};
 ghost use Rattle.task.specs.declared.Task.{Task};
 ghost use Rattle.task.specs.Arrays.{Holds};
-ghost use Rattle.words.specs.Words.{Answered, wideCard};
+ghost use Rattle.words.specs.Words.{Answered};
 use crate::list::card_of;
 use crate::list::policy_of;
 use crate::row::tell;
@@ -36,17 +36,4 @@ pub fn answered(
     }
     let answer = checker::check(own, card_of(card), policy_of(policy), startup, cycle);
     tell(answer, row)
-}
-
-// The same, for a wide card.
-pub fn on_wide(
-    own: Tasks,
-    policy: u64,
-    startup: &mut [u8],
-    cycle: &mut [u8],
-    row: &mut [u64],
-) -> u64
-    ensures { λ r. ⌜ ((l : List Task) → Holds own l → Answered wideCard policy l (now (startup .entry)) (now (cycle .entry)) (now (row .entry)) r (now (startup .exit)) (now (cycle .exit)) (now (row .exit))) ⌝ }
-{
-    answered(own, list::WIDE, policy, startup, cycle, row)
 }

@@ -1,7 +1,5 @@
 -- `Card::times` meets its contract.
-use mathlib.Core.Path.{_≡_, sym}
 use borrow.Author.Needs.{needs}
-use Rattle.card.specs.Cards.{isTimed}
 use Rattle.card.proofs.Card.times.Statement.{statement}
 use Rattle.card.proofs.Card.times.Tie as tie
 

@@ -1,6 +1,6 @@
 -- `Task::check` meets its contract: each `return` is at the first test of `taskRefusal` that holds.
 use mathlib.Core.Path.{_≡_, sym, ap, _∙_}
-use mathlib.Core.Bool.{not, true, false, _||_}
+use mathlib.Core.Bool.{not, false, _||_}
 use lib.Dec.{eqb, ltb}
 use borrow.Author.Needs.{needs}
 use borrow.Author.Tests.{eq-eqb, ne-eqb, lt-ltb, le-ltb}
