@@ -1,5 +1,6 @@
 -- `sholakpite_write_card` meets its contract: a call that is not understood, or the writer's answer for the tasks of the words.
 use Prim.Native.Nat.{_%_}
+use native.Mathlib.Omega.{arith}
 use lib.ListN.{length}
 use borrow.Author.Needs.{needs}
 use borrow.Author.Tests.{eq-eqb, ne-eqb, lt-ltb, le-ltb}
@@ -21,7 +22,7 @@ returns-2 c =
     let e = c .before in
     let x = e .before .before .before .args in
     text-not-understood (x .card) (x .policy) (x .list .now) (x .out .now) (misreadText (x .card) (x .policy) (x .list .now))
-    (simp (eq-eqb (length (x .list .now) % taskWords) 0 (e .if1 .left), lt-ltb lastCard (x .card) (c .if2 .taken)))
+    (simp (eq-eqb (length (x .list .now) % taskWords) 0 (e .if1 .left), lt-ltb lastCard (x .card) (omega arith)))
 
 returns-3 : tie.Need-returns-3
 returns-3 c =
@@ -32,7 +33,7 @@ returns-3 c =
     (simp (
       eq-eqb (length (x .list .now) % taskWords) 0 (e .if1 .left),
       le-ltb lastCard (x .card) (f .if2 .left),
-      lt-ltb lastPolicy (x .policy) (c .if3 .taken),
+      lt-ltb lastPolicy (x .policy) (omega arith),
     ))
 
 tasks-of-requires : tie.Need-tasks-of-requires
