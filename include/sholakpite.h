@@ -83,8 +83,8 @@ uint64_t sholakpite_check(uint64_t policy, const uint64_t *list, size_t list_len
 uint64_t sholakpite_check_tasks(uint64_t policy, const struct sholakpite_task *list, size_t list_len, uint8_t *startup,
                                 size_t startup_len, uint8_t *cycle, size_t cycle_len, uint64_t *row, size_t row_len);
 
-/* The same two for a list that names its card, of which the number stands in front; a card above 1 is not understood
-   either. For a wide card they answer as those above. */
+/* The same two for a list that names its card: the card's number stands in front, and above 1 it is not understood. For a
+   wide card they answer as those above. */
 uint64_t sholakpite_check_card(uint64_t card, uint64_t policy, const uint64_t *list, size_t list_len, uint8_t *startup,
                                size_t startup_len, uint8_t *cycle, size_t cycle_len, uint64_t *row, size_t row_len);
 uint64_t sholakpite_check_tasks_card(uint64_t card, uint64_t policy, const struct sholakpite_task *list, size_t list_len,

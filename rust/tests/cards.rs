@@ -140,7 +140,7 @@ fn other_answers_come_on_a_small_card_too() {
 }
 
 #[test]
-fn a_wide_card_is_what_it_was() {
+fn check_is_check_card_for_a_wide_card() {
     let lists = [
         vec![task(0, 1, 7, 7)],
         vec![task(0, 0, 9, 9)],

@@ -83,8 +83,8 @@ fn damaged(random: &mut Random, card: Card, policy: u64) -> Case {
     case
 }
 
-/// A period that the small card's timer does not have, or now and then another that it has; the other fields often stay
-/// inside their limits.
+/// A period that the small card's timer does not have, 0 among them, or now and then another that it has; the other fields
+/// often stay inside their limits.
 pub fn spoil_timer(random: &mut Random, tasks: &mut [Task]) {
     let at = random.index(tasks.len());
     let timed = random.pick(&SMALL_PERIODS);

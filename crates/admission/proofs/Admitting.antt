@@ -1,5 +1,5 @@
 -- The first refusal of a list, check by check, in the paper's order.
-use mathlib.Core.Path.{_≡_, _∙_}
+use mathlib.Core.Path.{_≡_, sym, _∙_}
 use mathlib.Core.List.{List}
 use Prim.Native.Nat.{ℕ, _+_, _≤_, _<_}
 use native.Mathlib.Omega.{arith}
@@ -7,12 +7,17 @@ use lib.Dec.{ltb}
 use lib.ListN.{length}
 use borrow.Author.Tests.{eq-eqb, ne-eqb, lt-ltb, le-ltb}
 use Rattle.card.specs.declared.Card.{Card}
+use Rattle.card.specs.declared.Card.the-variants.{Wide}
 use Rattle.task.specs.declared.Task.{Task}
 use Rattle.task.specs.Limits.{mostTasks, longestHyperperiod}
 use Rattle.task.specs.Tasks.{latest, hyperperiod}
 use Rattle.refusal.specs.declared.Refusal.the-variants.{Count, Hyperperiod, Startup, Cycle}
 use Rattle.refusal.specs.Refusals.{numberOf, sound, refused, refusedIf}
 use Rattle.task.specs.Checks.{tasksRefusal, firstRefusal}
+use Rattle.task.proofs.Cards.{tasks-nine, not-nine, same-list}
+use Rattle.admission.specs.declared.Admission.{Admission}
+use Rattle.admission.specs.declared.Admission.the-variants.{Refused, Sound}
+use Rattle.admission.specs.Admissions.{Admits}
 
 module _ (c : Card) (l : List Task) (startup cycle : ℕ) where
   pub none-refused : length l ≡ 0 → firstRefusal c l startup cycle ≡ refused (numberOf Count) 0
@@ -57,3 +62,15 @@ module _ (c : Card) (l : List Task) (startup cycle : ℕ) where
 
           pub not-refused : hyperperiod l ≤ cycle → firstRefusal c l startup cycle ≡ sound
           not-refused h = last ∙ rw (le-ltb cycle (hyperperiod l) h)
+
+-- a list none of whose tasks the card refuses: what is said of it for a wide card is said for this one
+module _ (card : Card) (l : List Task) (ok : tasksRefusal card 0 l ≡ sound) where
+  alike : tasksRefusal card 0 l ≡ tasksRefusal Wide 0 l
+  alike = not-nine _ _ (tasks-nine card 0 l) ok
+
+  pub wide-tasks : tasksRefusal Wide 0 l ≡ sound
+  wide-tasks = sym alike ∙ ok
+
+  pub admits-on : (startup cycle : ℕ) (a : Admission) → Admits Wide l startup cycle a → Admits card l startup cycle a
+  admits-on startup cycle (Refused r i) x = same-list card l startup cycle alike ∙ x
+  admits-on startup cycle (Sound m) x = record { no-refusal = same-list card l startup cycle alike ∙ x .no-refusal; measured = x .measured }

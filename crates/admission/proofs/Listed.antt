@@ -12,6 +12,7 @@ use Rattle.divisor.specs.declared.Multiple.the-variants.{Of, Above}
 use Rattle.divisor.specs.Divisors.{lcm, within}
 use Rattle.divisor.proofs.Divisors.{within-above, is-of, is-above}
 use Rattle.card.specs.declared.Card.{Card}
+use Rattle.card.specs.declared.Card.the-variants.{Wide}
 use Rattle.task.specs.declared.Task.{Task}
 use Rattle.refusal.specs.declared.Refusal.{Refusal}
 use Rattle.refusal.specs.declared.Check.{Check}
@@ -51,9 +52,9 @@ want-few l H i f =
     omega (arith, mul-le-mul-right (turns l H i) e, mul-div-le H (τ .period))
 
 -- The sum of what they want, where none of them is refused.
-module _ (items : List Task) (n H : ℕ) (room : n ≤ length items) (ok : (c : Card) × (tasksRefusal c 0 (take n items) ≡ sound)) where
+module _ (items : List Task) (n H : ℕ) (room : n ≤ length items) (ok : tasksRefusal Wide 0 (take n items) ≡ sound) where
   pub task-fine : (i : ℕ) → i < n → Fine (task items i)
-  task-fine i b = rw (getD-take n items i nobody) at (tasks-fine (ok .0) 0 (take n items) (ok .1) i (omega (arith, length-take n items)))
+  task-fine i b = rw (getD-take n items i nobody) at (tasks-fine Wide 0 (take n items) ok i (omega (arith, length-take n items)))
 
   pub want-next : (i : ℕ) → i < n → sum (want (take n items) H) (i + 1) ≡ sum (want (take n items) H) i + want items H i
   want-next i b = rw (add-one, getD-take n items i nobody b)

@@ -15,11 +15,11 @@ use Rattle.task.specs.Checks.{firstRefusal}
 abbrev pub measuresOf : List Task → Measures
 measuresOf l = record { latest = latest l; hyperperiod = hyperperiod l; load = load l (hyperperiod l) }
 
-pub record IsSound (c : Card) (l : List Task) (startup cycle : ℕ) (m : Measures) : Type 0 where
-  pub no-refusal : firstRefusal c l startup cycle ≡ sound
+pub record IsSound (card : Card) (l : List Task) (startup cycle : ℕ) (m : Measures) : Type 0 where
+  pub no-refusal : firstRefusal card l startup cycle ≡ sound
   pub measured : m ≡ measuresOf l
 
 -- refused exactly by the first refusal, sound exactly where there is none
 abbrev pub Admits : Card → List Task → ℕ → ℕ → Admission → Type 0
-Admits c l startup cycle (Refused r i) = firstRefusal c l startup cycle ≡ refused (numberOf r) i
-Admits c l startup cycle (Sound m) = IsSound c l startup cycle m
+Admits card l startup cycle (Refused r i) = firstRefusal card l startup cycle ≡ refused (numberOf r) i
+Admits card l startup cycle (Sound m) = IsSound card l startup cycle m

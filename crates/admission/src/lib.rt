@@ -5,7 +5,7 @@ ghost use mathlib.Core.Path.{_≡_};
 ghost use mathlib.Core.List.{List};
 ghost use Prim.Native.Nat.{_<_, _≤_};
 ghost use lib.ListN.{take};
-ghost use Rattle.card.specs.declared.Card.{Card};
+ghost use Rattle.card.specs.declared.Card.the-variants.{Wide};
 ghost use Rattle.task.specs.declared.Task.{Task};
 ghost use Rattle.task.specs.Limits.{mostTasks, longestHyperperiod};
 ghost use Rattle.task.specs.Tasks.{hyperperiod};
@@ -83,11 +83,11 @@ fn check_all(items: [Task; Task::MOST], n: usize, card: Card) -> Check
     Check::Sound
 }
 
-// Refusal 6, and then the later ones. No card matters from here on: what is refused is so on every card.
+// Refusal 6, and then the later ones. Where a card refuses none of the tasks, the rest is as on a wide one.
 fn by_hyperperiod(items: [Task; Task::MOST], n: usize, startup: usize, cycle: usize) -> Admission
     requires { ⌜ (0 < n) × (n ≤ mostTasks) ⌝ }
-    requires { ⌜ ((c : Card) × (tasksRefusal c 0 (take n items) ≡ sound)) ⌝ }
-    ensures { λ r. ⌜ ((c : Card) → tasksRefusal c 0 (take n items) ≡ sound → Admits c (take n items) startup cycle r) ⌝ }
+    requires { ⌜ tasksRefusal Wide 0 (take n items) ≡ sound ⌝ }
+    ensures { λ r. ⌜ Admits Wide (take n items) startup cycle r ⌝ }
 {
     let whole = measure::hyperperiod(items, n);
     match whole {
@@ -105,9 +105,9 @@ fn by_room(
     cycle: usize,
 ) -> Admission
     requires { ⌜ (0 < n) × (n ≤ mostTasks) ⌝ }
-    requires { ⌜ ((c : Card) × (tasksRefusal c 0 (take n items) ≡ sound)) ⌝ }
+    requires { ⌜ tasksRefusal Wide 0 (take n items) ≡ sound ⌝ }
     requires { ⌜ (whole ≡ hyperperiod (take n items)) × (whole ≤ longestHyperperiod) ⌝ }
-    ensures { λ r. ⌜ ((c : Card) → tasksRefusal c 0 (take n items) ≡ sound → Admits c (take n items) startup cycle r) ⌝ }
+    ensures { λ r. ⌜ Admits Wide (take n items) startup cycle r ⌝ }
 {
     let latest = measure::latest(items, n);
     if startup < latest + whole {

@@ -3,7 +3,7 @@
 ghost use mathlib.Core.Path.{_≡_};
 ghost use Prim.Native.Nat.{_≤_};
 ghost use lib.ListN.{take};
-ghost use Rattle.card.specs.declared.Card.{Card};
+ghost use Rattle.card.specs.declared.Card.the-variants.{Wide};
 ghost use Rattle.task.specs.Limits.{mostTasks, longestHyperperiod};
 ghost use Rattle.divisor.specs.Divisors.{within};
 ghost use Rattle.task.specs.Tasks.{latest, hyperperiod, load};
@@ -31,7 +31,7 @@ pub(crate) fn latest(items: [Task; Task::MOST], n: usize) -> usize
 // The least common multiple of all periods. Once it is above the limit it stays there, so the fold ends early.
 pub(crate) fn hyperperiod(items: [Task; Task::MOST], n: usize) -> Multiple
     requires { ⌜ n ≤ mostTasks ⌝ }
-    requires { ⌜ ((c : Card) × (tasksRefusal c 0 (take n items) ≡ sound)) ⌝ }
+    requires { ⌜ tasksRefusal Wide 0 (take n items) ≡ sound ⌝ }
     ensures { λ r. ⌜ r ≡ within longestHyperperiod (hyperperiod (take n items)) ⌝ }
 {
     let mut whole: usize = 1;
@@ -53,7 +53,7 @@ pub(crate) fn hyperperiod(items: [Task; Task::MOST], n: usize) -> Multiple
 // The slots that all tasks want in `whole` instants.
 pub(crate) fn load(items: [Task; Task::MOST], n: usize, whole: usize) -> usize
     requires { ⌜ n ≤ mostTasks ⌝ }
-    requires { ⌜ ((c : Card) × (tasksRefusal c 0 (take n items) ≡ sound)) ⌝ }
+    requires { ⌜ tasksRefusal Wide 0 (take n items) ≡ sound ⌝ }
     requires { ⌜ whole ≤ longestHyperperiod ⌝ }
     ensures { λ r. ⌜ r ≡ load (take n items) whole ⌝ }
 {

@@ -40,8 +40,8 @@ old n = replicate n 99
 
 -- a row of the table: the buffers have the lengths n and m, and end up as s and c, the rest of them kept
 abbrev pub entryOn : Card → Policy → List Task → ℕ → ℕ → Row → List ℕ → List ℕ → Entry
-entryOn k p l n m r s c = record {
-  card = k;
+entryOn card p l n m r s c = record {
+  card = card;
   policy = p;
   tasks = l;
   startup = old n;
@@ -73,7 +73,9 @@ table =
     ∷ entryOn Small Edf (taskOf 0 2 4 4 ∷ taskOf 1 1 2 4 ∷ []) 6 5 (plan 1 4 3 1 1 2 1) (0 ∷ 1 ∷ 0 ∷ 255 ∷ 0 ∷ old 1) (1 ∷ 0 ∷ 255 ∷ 0 ∷ old 1)
     ∷ entryOn Small RateMonotonic (taskOf 0 2 5 5 ∷ taskOf 0 4 7 7 ∷ []) 35 35 (refused 9 1) (old 35) (old 35)
     ∷ entryOn Small Edf (taskOf 0 1 1 0 ∷ []) 2 2 (refused 2 0) (old 2) (old 2)
+    ∷ entryOn Small Edf (taskOf 0 1 1 16385 ∷ []) 2 2 (refused 2 0) (old 2) (old 2)
     ∷ entryOn Small Edf (taskOf 0 0 9 9 ∷ []) 9 9 (refused 9 0) (old 9) (old 9)
+    ∷ entryOn Small Edf (taskOf 0 1 1 7 ∷ taskOf 0 1 1 0 ∷ []) 2 2 (refused 9 0) (old 2) (old 2)
     ∷ []))
 
 abbrev modelOf : Entry → Outcome

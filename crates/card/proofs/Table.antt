@@ -1,6 +1,6 @@
 -- A table of periods: looked up number by number, and the rule of one that passes a test, which is computed once for the whole table.
 use mathlib.Core.Path.{_≡_, refl, sym, ap, _∙_}
-use mathlib.Core.Bool.{Bool, true, false, _&&_, true≢false}
+use mathlib.Core.Bool.{Bool, true, false, _&&_, Bool·beq, and-eq-true-iff}
 use mathlib.Core.List.{List, [], _∷_}
 use Prim.Native.Nat.{ℕ, zero, suc, _+_, _≤_, _<_}
 use native.Mathlib.Nat.{mod-eq-of-lt}
@@ -32,35 +32,26 @@ unfoldable pub low : List ℕ → Bool
 low [] = true
 low (x ∷ table) = leb x longestTimed && low table
 
-unfoldable pub agree : Bool → Bool → Bool
-agree true b = b
-agree false true = false
-agree false false = true
-
 -- of the numbers below n the table has the divisors of 240, and no other
 unfoldable pub exact : List ℕ → ℕ → Bool
 exact table zero = true
-exact table (suc n) = agree (isAmong table n) (isDivisor n) && exact table n
+exact table (suc n) = Bool·beq (isAmong table n) (isDivisor n) && exact table n
 
 -- the test of a whole table
 unfoldable pub passes : List ℕ → Bool
 passes table = low table && exact table (suc longestTimed)
 
-agreed : (a b : Bool) → agree a b ≡ true → a ≡ b
-unfolding agree
-agreed true b e = sym e
+agreed : (a b : Bool) → Bool·beq a b ≡ true → a ≡ b
+agreed true true e = refl
+agreed true false e = sym e
 agreed false true e = e
 agreed false false e = refl
-
-both : (a b : Bool) → (a && b) ≡ true → (a ≡ true) × (b ≡ true)
-both true b e = (refl, e)
-both false b e = (e, absurd (true≢false (sym e)))
 
 above-none : (table : List ℕ) → low table ≡ true → (period : ℕ) → longestTimed < period → isAmong table period ≡ false
 unfolding low isAmong
 above-none [] e period h = refl
 above-none (x ∷ table) e period h =
-    let p = both (leb x longestTimed) (low table) e in
+    let p = and-eq-true-iff (leb x longestTimed) (low table) .0 e in
     let n : x ≤ longestTimed = leb-true x longestTimed (p .0) in
     rw (ne-eqb x period (λ q. omega arith), above-none table (p .1) period h)
 
@@ -71,7 +62,7 @@ below : (table : List ℕ) (n : ℕ) → exact table n ≡ true → (period : �
 unfolding exact
 below table zero e period h = absurd (omega arith)
 below table (suc n) e period h =
-    let p = both (agree (isAmong table n) (isDivisor n)) (exact table n) e in
+    let p = and-eq-true-iff (Bool·beq (isAmong table n) (isDivisor n)) (exact table n) .0 e in
     elim (decLt period n) [
       | yes q ↦ below table n (p .1) period q
       | no q ↦ last (omega arith) (agreed (isAmong table n) (isDivisor n) (p .0))
@@ -80,19 +71,14 @@ below table (suc n) e period h =
     last : period ≡ n → isAmong table n ≡ isDivisor n → isAmong table period ≡ isDivisor period
     last s x = rw s x
 
--- what was found of a period in a table
-pub record Looked (found : Bool) (period : ℕ) : Type 0 where
-  pub table : List ℕ
-  pub is : found ≡ isAmong table period
-
 -- a table that passes the test has exactly the divisors of 240
-pub rule : (found : Bool) (period : ℕ) (l : Looked found period) → passes (l .table) ≡ true → found ≡ isDivisor period
+pub rule : (table : List ℕ) → passes table ≡ true → (period : ℕ) → isAmong table period ≡ isDivisor period
 unfolding passes
-rule found period l e = l .is ∙ go (decLt longestTimed period)
+rule table e period = go (decLt longestTimed period)
   where
-    p : (low (l .table) ≡ true) × (exact (l .table) (suc longestTimed) ≡ true)
-    p = both _ _ e
+    p : (low table ≡ true) × (exact table (suc longestTimed) ≡ true)
+    p = and-eq-true-iff _ _ .0 e
 
-    go : Dec (longestTimed < period) → isAmong (l .table) period ≡ isDivisor period
-    go (yes h) = above-none (l .table) (p .0) period h ∙ sym (above-not period h)
-    go (no h) = below (l .table) (suc longestTimed) (p .1) period (omega arith)
+    go : Dec (longestTimed < period) → isAmong table period ≡ isDivisor period
+    go (yes h) = above-none table (p .0) period h ∙ sym (above-not period h)
+    go (no h) = below table (suc longestTimed) (p .1) period (omega arith)

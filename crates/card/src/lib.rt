@@ -9,8 +9,8 @@ pub enum Card {
 }
 
 impl Card {
-    // What the small card's timer has.
-    pub const TIMER_PERIODS: [usize; 20] = [
+    // What the small card can time: the divisors of 240, and no other period.
+    const TIMER_PERIODS: [usize; 20] = [
         1,
         2,
         3,
@@ -44,6 +44,7 @@ impl Card {
     }
 }
 
+// Whether the small card can time a period: whether the table has it.
 fn on_small(period: usize) -> bool
     ensures { λ r. ⌜ r ≡ isDivisor period ⌝ }
 {

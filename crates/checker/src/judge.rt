@@ -4,7 +4,7 @@ ghost use mathlib.Core.List.{List};
 ghost use Prim.Native.Nat.{_≤_};
 ghost use lib.ListN.{length, take};
 ghost use Rattle.refusal.specs.Refusals.{sound};
-ghost use Rattle.card.specs.declared.Card.{Card};
+ghost use Rattle.card.specs.declared.Card.the-variants.{Wide};
 ghost use Rattle.task.specs.declared.Task.{Task};
 ghost use Rattle.task.specs.Limits.{mostTasks};
 ghost use Rattle.task.specs.Arrays.{Holds};
@@ -41,7 +41,7 @@ pub(crate) fn checked(
     }
 }
 
-// A list that is not refused: overloaded, or what its schedule says. That is the same on every card that does not refuse it.
+// A list that is not refused: overloaded, or what its schedule says. From here on every card is as a wide one.
 fn judged(
     items: [Task; Task::MOST],
     n: usize,
@@ -51,9 +51,9 @@ fn judged(
     cycle: &mut [u8],
 ) -> Answer
     requires { ⌜ n ≤ mostTasks ⌝ }
-    requires { ⌜ ((c : Card) × (firstRefusal c (take n items) (length (now startup)) (length (now cycle)) ≡ sound)) ⌝ }
+    requires { ⌜ firstRefusal Wide (take n items) (length (now startup)) (length (now cycle)) ≡ sound ⌝ }
     requires { ⌜ measures ≡ measuresOf (take n items) ⌝ }
-    ensures { λ r. ⌜ ((c : Card) → firstRefusal c (take n items) (length (now (startup .entry))) (length (now (cycle .entry))) ≡ sound → Permitted c policy (take n items) (now (startup .entry)) (now (cycle .entry)) (row r) (now (startup .exit)) (now (cycle .exit))) ⌝ }
+    ensures { λ r. ⌜ Permitted Wide policy (take n items) (now (startup .entry)) (now (cycle .entry)) (row r) (now (startup .exit)) (now (cycle .exit)) ⌝ }
 {
     let load = measures.load;
     let hyperperiod = measures.hyperperiod;
@@ -73,10 +73,10 @@ fn scheduled(
     cycle: &mut [u8],
 ) -> Answer
     requires { ⌜ n ≤ mostTasks ⌝ }
-    requires { ⌜ ((c : Card) × (firstRefusal c (take n items) (length (now startup)) (length (now cycle)) ≡ sound)) ⌝ }
+    requires { ⌜ firstRefusal Wide (take n items) (length (now startup)) (length (now cycle)) ≡ sound ⌝ }
     requires { ⌜ measures ≡ measuresOf (take n items) ⌝ }
     requires { ⌜ measures .load ≤ measures .hyperperiod ⌝ }
-    ensures { λ r. ⌜ ((c : Card) → firstRefusal c (take n items) (length (now (startup .entry))) (length (now (cycle .entry))) ≡ sound → Permitted c policy (take n items) (now (startup .entry)) (now (cycle .entry)) (row r) (now (startup .exit)) (now (cycle .exit))) ⌝ }
+    ensures { λ r. ⌜ Permitted Wide policy (take n items) (now (startup .entry)) (now (cycle .entry)) (row r) (now (startup .exit)) (now (cycle .exit)) ⌝ }
 {
     let mut run = [0usize; Task::MOST];
     let mut deadline = [0usize; Task::MOST];

@@ -1,6 +1,6 @@
 // Both tables, and the answer that they lead to.
 ghost use mathlib.Core.List.{List};
-ghost use Rattle.card.specs.declared.Card.{Card};
+ghost use Rattle.card.specs.declared.Card.the-variants.{Wide};
 ghost use Rattle.task.specs.declared.Task.{Task};
 ghost use Rattle.answer.specs.Answers.{row};
 ghost use Rattle.answer.specs.Promise.{Permitted};
@@ -28,8 +28,8 @@ pub(crate) fn tables(
     cycle: &mut [u8],
     chosen: usize,
 ) -> Answer
-    requires { ⌜ ((l : List Task) × Loaded l n (now run) (now deadline) (now period) × Instant policy l 0 (now owed) (now next) (now dues) (now keys) chosen × (c : Card) × Ready c l (now startup) (now cycle) (measures .latest) (measures .hyperperiod) (measures .load)) ⌝ }
-    ensures { λ r. ⌜ ((l : List Task) → Loaded l n (now (run .entry)) (now (deadline .entry)) (now (period .entry)) → Instant policy l 0 (now (owed .entry)) (now (next .entry)) (now (dues .entry)) (now (keys .entry)) chosen → (c : Card) → Ready c l (now (startup .entry)) (now (cycle .entry)) (measures .latest) (measures .hyperperiod) (measures .load) → Permitted c policy l (now (startup .entry)) (now (cycle .entry)) (row r) (now (startup .exit)) (now (cycle .exit))) ⌝ }
+    requires { ⌜ ((l : List Task) × Loaded l n (now run) (now deadline) (now period) × Instant policy l 0 (now owed) (now next) (now dues) (now keys) chosen × Ready l (now startup) (now cycle) (measures .latest) (measures .hyperperiod) (measures .load)) ⌝ }
+    ensures { λ r. ⌜ ((l : List Task) → Loaded l n (now (run .entry)) (now (deadline .entry)) (now (period .entry)) → Instant policy l 0 (now (owed .entry)) (now (next .entry)) (now (dues .entry)) (now (keys .entry)) chosen → Ready l (now (startup .entry)) (now (cycle .entry)) (measures .latest) (measures .hyperperiod) (measures .load) → Permitted Wide policy l (now (startup .entry)) (now (cycle .entry)) (row r) (now (startup .exit)) (now (cycle .exit))) ⌝ }
 {
     let hyperperiod = measures.hyperperiod;
     let lead = measures.latest + hyperperiod;

@@ -1,4 +1,4 @@
--- What a list is refused for where the buffers have room for every list: a limit of the list, and a task of it.
+-- What a list is refused for where the buffers have room for every list: its own numbers or its card, and a task of it.
 use mathlib.Core.Path.{_≡_, refl, subst}
 use mathlib.Core.Bool.{Bool, true, false, not, _||_}
 use mathlib.Core.List.{List, [], _∷_}
@@ -13,9 +13,9 @@ use Rattle.refusal.specs.Refusals.{numberOf, Finding, sound, refused, refusedIf
 use Rattle.card.specs.declared.Card.{Card}
 use Rattle.card.specs.Cards.{isTimed}
 use Rattle.task.specs.declared.Task.{Task}
-use Rattle.task.specs.Limits.{mostTasks, longestPeriod, latestOffset, longestHyperperiod}
+use Rattle.task.specs.Limits.{mostTasks, latestOffset, longestHyperperiod}
 use Rattle.task.specs.Tasks.{latest, hyperperiod}
-use Rattle.task.specs.Checks.{taskRefusal, tasksRefusal, firstRefusal}
+use Rattle.task.specs.Checks.{isUnfit, taskRefusal, tasksRefusal, firstRefusal}
 use Rattle.task.proofs.Refusing.{neither, tasks-fine}
 use Rattle.task.proofs.Offsets.{latest-least}
 use Rattle.output.specs.Output.{longestStartup, longestCycle}
@@ -55,7 +55,7 @@ limit-tasks : (card : Card) (i : ℕ) (l : List Task) → i + length l ≤ mostT
 limit-tasks card i [] h = tt
 limit-tasks card i (τ ∷ l) h =
     limit-then (taskRefusal card i τ) (tasksRefusal card (suc i) l)
-    (limit-one i (omega arith) (eqb (τ .period) 0 || ltb longestPeriod (τ .period)) (not (isTimed card (τ .period))) (eqb (τ .run) 0 || ltb (τ .deadline) (τ .run))
+    (limit-one i (omega arith) (isUnfit (τ .period)) (not (isTimed card (τ .period))) (eqb (τ .run) 0 || ltb (τ .deadline) (τ .run))
     (ltb (τ .period) (τ .deadline)) (ltb latestOffset (τ .offset)))
     (limit-tasks card (suc i) l (omega arith))
 

@@ -1,4 +1,4 @@
--- What is printed for an input. Request #101.
+-- What is printed for an input. Requests #101 and #105.
 use mathlib.Core.Path.{_≡_}
 use mathlib.Core.List.{List}
 use Prim.Native.Nat.{ℕ, _+_, _-_, _*_}

@@ -1,4 +1,4 @@
-// What is printed for an input: any bytes, of any length. Request #101.
+// What is printed for an input: any bytes, of any length. Requests #101 and #105.
 ghost use mathlib.Core.Path.{_≡_};
 ghost use mathlib.Core.List.{List};
 ghost use Rattle.task.specs.declared.Task.{Task};

@@ -10,7 +10,7 @@ use Rattle.writer.specs.declared.Saved.{Saved}
 use Rattle.writer.specs.Writing.{SavedAs, savedNumber}
 use Rattle.writer.proofs.Pinned.{saved-pinned}
 use Rattle.output.proofs.Pinned.{printed-pinned}
-use Rattle.words.specs.Words.{cardOf, policyOf, tasksOf}
+use Rattle.words.specs.Words.{cardOf, policyOf, tasksOf, notUnderstood}
 use Rattle.sholakpite.specs.Texts.{lengthOf, AnsweredText, misreadText, eitherText, WrittenText}
 
 -- `sholakpite_answer` has one outcome
@@ -21,7 +21,7 @@ answer-text-pinned input buffer n n′ left left′ x y =
     (x .is-length ∙ ap lengthOf (e .0) ∙ sym (y .is-length), e .1)
 
 module _ (card policy : ℕ) (list buffer : List ℕ) where
-  pub text-not-understood : (b : Bool) → b ≡ true → eitherText card policy list buffer b 4 buffer
+  pub text-not-understood : (b : Bool) → b ≡ true → eitherText card policy list buffer b notUnderstood buffer
   text-not-understood true e = record { is-code = refl; kept = refl }
   text-not-understood false e = absurd (true≢false (sym e))
 

@@ -8,7 +8,7 @@ use borrow.Author.Count.{below-more}
 use lib.ListN.{length, take, set, length-set}
 use lib.Seq.{getD-set-same, getD-set-other, getD-take, length-take-le}
 use Rattle.refusal.specs.Refusals.{sound}
-use Rattle.card.specs.declared.Card.{Card}
+use Rattle.card.specs.declared.Card.the-variants.{Wide}
 use Rattle.task.specs.declared.Task.{Task}
 use Rattle.task.specs.Limits.{mostTasks}
 use Rattle.task.specs.Tasks.{nobody, task}
@@ -61,9 +61,8 @@ module _ {items : List Task} {n : ℕ} {run deadline period next : List ℕ} (s 
   same : (i : ℕ) → i < length (take n items) → task items i ≡ task (take n items) i
   same i b = sym (getD-take n items i nobody (omega (arith, size)))
 
-  pub loaded : (card : Card) (startup cycle : ℕ) → firstRefusal card (take n items) startup cycle ≡ sound → Loaded (take n items) n run deadline period
-  loaded card startup cycle e = record {
-    card = card;
+  pub loaded : (startup cycle : ℕ) → firstRefusal Wide (take n items) startup cycle ≡ sound → Loaded (take n items) n run deadline period
+  loaded startup cycle e = record {
     startup-room = startup;
     cycle-room = cycle;
     no-refusal = e;

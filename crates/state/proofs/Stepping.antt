@@ -9,6 +9,7 @@ use native.Mathlib.Decide.{decLt}
 use native.Mathlib.Omega.{arith}
 use lib.Dec.{eqb, ltb}
 use lib.ListN.{length, set}
+use Rattle.card.specs.declared.Card.the-variants.{Wide}
 use Rattle.task.specs.declared.Task.{Task}
 use Rattle.task.specs.Limits.{largest, mostTasks, longestPeriod}
 use Rattle.task.specs.Tasks.{task, hyperperiod}
@@ -30,7 +31,7 @@ use Rattle.state.proofs.Preempted.{preempted}
 
 module _ {l : List Task} {n : ℕ} {run deadline period : List ℕ} (L : Loaded l n run deadline period) where
   pub ok : Passed l (L .startup-room) (L .cycle-room)
-  ok = passed (L .card) l (L .startup-room) (L .cycle-room) (L .no-refusal)
+  ok = passed Wide l (L .startup-room) (L .cycle-room) (L .no-refusal)
 
   pub w : Sound l (hyperperiod l)
   w = is-sound ok

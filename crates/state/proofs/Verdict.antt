@@ -4,7 +4,7 @@ use mathlib.Core.List.{List}
 use Prim.Native.Nat.{ℕ, _+_, _-_, _≤_, _<_, min}
 use native.Mathlib.Omega.{arith}
 use lib.ListN.{length}
-use Rattle.card.specs.declared.Card.{Card}
+use Rattle.card.specs.declared.Card.the-variants.{Wide}
 use Rattle.task.specs.declared.Task.{Task}
 use Rattle.task.specs.Tasks.{latest, hyperperiod, load}
 use Rattle.task.specs.Limits.{latestOffset}
@@ -32,9 +32,9 @@ planWith M H L idle idle′ preemptions preemptions′ = record {
   «cycle_preemptions» = preemptions′;
 }
 
-module _ {card : Card} {l : List Task} {startup cycle : List ℕ} {M H L : ℕ} (R : Ready card l startup cycle M H L) where
+module _ {l : List Task} {startup cycle : List ℕ} {M H L : ℕ} (R : Ready l startup cycle M H L) where
   ok : Passed l (length startup) (length cycle)
-  ok = passed card l (length startup) (length cycle) (R .no-refusal)
+  ok = passed Wide l (length startup) (length cycle) (R .no-refusal)
 
   -- nothing wraps, and the tables have room
   pub small : M + H + H < plenty
@@ -54,7 +54,7 @@ module _ {card : Card} {l : List Task} {startup cycle : List ℕ} {M H L : ℕ} 
 
   module _ {p : Policy} {startup′ owed next dues keys : List ℕ} {idle preemptions i d chosen : ℕ}
       (s : Stretched p l 0 (M + H) startup startup′ idle preemptions i d owed next dues keys chosen) where
-    pub missed-first : i < length l → Permitted card p l startup cycle (missed i d) startup′ cycle
+    pub missed-first : i < length l → Permitted Wide p l startup cycle (missed i d) startup′ cycle
     missed-first b =
         let m = s .misses b in
         let e : min d (latest l + hyperperiod l) ≡ d - 0 = omega (arith, m .2, lead) in
@@ -71,7 +71,7 @@ module _ {card : Card} {l : List Task} {startup cycle : List ℕ} {M H L : ℕ} 
       first-filled : startup′ ≡ filled (endless p l) 0 (latest l + hyperperiod l) startup
       first-filled = rw lead at (s .written on)
 
-      pub missed-later : j < length l → Permitted card p l startup cycle (missed j e) startup′ cycle′
+      pub missed-later : j < length l → Permitted Wide p l startup cycle (missed j e) startup′ cycle′
       missed-later b =
           let m = r .misses b in
           let f : min e (latest l + hyperperiod l) ≡ latest l + hyperperiod l = omega (arith, m .1, lead) in
@@ -87,7 +87,7 @@ module _ {card : Card} {l : List Task} {startup cycle : List ℕ} {M H L : ℕ} 
       counted b =
           rw (s .idles on, r .idles b, s .switches on, r .switches b, lead, R .is-latest, R .is-hyperperiod, R .is-load) refl
 
-      pub never-missed : length l ≤ j → Permitted card p l startup cycle (feasible (planWith M H L idle idle′ preemptions preemptions′)) startup′ cycle′
+      pub never-missed : length l ≤ j → Permitted Wide p l startup cycle (feasible (planWith M H L idle idle′ preemptions preemptions′)) startup′ cycle′
       never-missed b = record {
         no-refusal = R .no-refusal;
         room = room;

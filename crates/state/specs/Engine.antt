@@ -1,10 +1,11 @@
--- What one slot, and a stretch of slots, make of what the slot engine keeps. Only the engine's contracts and proofs cite it.
+-- What one slot, and a stretch of slots, make of what the slot engine keeps. Only the engine's contracts and proofs cite it. A list that its card does not refuse
+-- a wide card does not refuse either, so here a list that is not refused is so on a wide card.
 use mathlib.Core.Path.{_≡_}
 use mathlib.Core.List.{List}
 use Prim.Native.Nat.{ℕ, suc, _+_, _-_, _^_, _≤_, _<_}
 use lib.ListN.{length, set}
 use Rattle.refusal.specs.Refusals.{sound}
-use Rattle.card.specs.declared.Card.{Card}
+use Rattle.card.specs.declared.Card.the-variants.{Wide}
 use Rattle.task.specs.declared.Task.{Task}
 use Rattle.task.specs.Tasks.{task, latest, hyperperiod, load}
 use Rattle.task.specs.Checks.{firstRefusal}
@@ -18,12 +19,11 @@ use Rattle.state.specs.State.{at, Unpacked, KeptAt, Clear, Sized}
 abbrev pub plenty : ℕ
 plenty = 2 ^ 32
 
--- a list of n tasks that is not refused on its card, with its numbers in arrays
+-- a list of n tasks that is not refused, with its numbers in arrays
 pub record Loaded (l : List Task) (n : ℕ) (run deadline period : List ℕ) : Type 0 where
-  pub card : Card
   pub startup-room : ℕ
   pub cycle-room : ℕ
-  pub no-refusal : firstRefusal card l startup-room cycle-room ≡ sound
+  pub no-refusal : firstRefusal Wide l startup-room cycle-room ≡ sound
   pub counted : n ≡ length l
   pub unpacked : Unpacked l run deadline period
 
@@ -63,9 +63,9 @@ pub record Stretched (p : Policy) (l : List Task) (t n : ℕ) (table table′ : 
   pub idles : length l ≤ missed → idle ≡ count (λ u. isIdle (endless p l u)) t n
   pub switches : length l ≤ missed → preemptions ≡ count (preempts l (endless p l)) (suc t) n
 
--- a list that is not refused on its card and not overloaded, with M, H and L, and two tables with room for its slots
-pub record Ready (card : Card) (l : List Task) (startup cycle : List ℕ) (M H L : ℕ) : Type 0 where
-  pub no-refusal : firstRefusal card l (length startup) (length cycle) ≡ sound
+-- a list that is not refused and not overloaded, with M, H and L, and two tables with room for its slots
+pub record Ready (l : List Task) (startup cycle : List ℕ) (M H L : ℕ) : Type 0 where
+  pub no-refusal : firstRefusal Wide l (length startup) (length cycle) ≡ sound
   pub is-latest : M ≡ latest l
   pub is-hyperperiod : H ≡ hyperperiod l
   pub is-load : L ≡ load l (hyperperiod l)

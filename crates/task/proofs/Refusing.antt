@@ -14,7 +14,7 @@ use Rattle.task.specs.Tasks.{task, latest, hyperperiod}
 use Rattle.refusal.specs.declared.Refusal.{Refusal}
 use Rattle.refusal.specs.declared.Refusal.the-variants.{Count, Period, Run, Deadline, Offset, Hyperperiod, Startup, Cycle, Timer}
 use Rattle.refusal.specs.Refusals.{Finding, sound, refused, refusedIf, _then_}
-use Rattle.task.specs.Checks.{taskRefusal, tasksRefusal, firstRefusal}
+use Rattle.task.specs.Checks.{isUnfit, taskRefusal, tasksRefusal, firstRefusal}
 
 pub record Fine (τ : Task) : Type 0 where
   pub live : 0 < τ .period
@@ -24,7 +24,7 @@ pub record Fine (τ : Task) : Type 0 where
   pub within : τ .deadline ≤ τ .period
   pub soon : τ .offset ≤ latestOffset
 
-not-sound : {n i : ℕ} → refused n i ≡ sound → ⊥
+pub not-sound : {n i : ℕ} → refused n i ≡ sound → ⊥
 not-sound e = let z : _≡_ {A = ℕ} 0 1 = cc in omega arith
 
 -- a check that finds nothing, and one after the other
@@ -32,7 +32,7 @@ past : (b : Bool) (r : Refusal) (i : ℕ) → refusedIf b r i ≡ sound → b �
 past true r i e = absurd (not-sound e)
 past false r i e = refl
 
-pub both : (f g : Finding) → (f then g) ≡ sound → (f ≡ sound) × (g ≡ sound)
+both : (f g : Finding) → (f then g) ≡ sound → (f ≡ sound) × (g ≡ sound)
 both sound g e = (refl, e)
 both (refused n i) g e = absurd (not-sound e)
 
@@ -42,11 +42,11 @@ neither false b e = (refl, e)
 
 task-fine : (c : Card) (i : ℕ) (τ : Task) → taskRefusal c i τ ≡ sound → Fine τ
 task-fine c i τ e =
-    let c₂ = both _ _ e in
+    let c₂ = both (refusedIf (isUnfit (τ .period)) Period i) _ e in
     let c₉ = both (refusedIf (not (isTimed c (τ .period))) Timer i) _ (c₂ .1) in
     let c₃ = both _ _ (c₉ .1) in
     let c₄ = both _ _ (c₃ .1) in
-    let T = neither _ _ (past _ Period i (c₂ .0)) in
+    let T = neither _ _ (past (isUnfit (τ .period)) Period i (c₂ .0)) in
     let C = neither _ _ (past _ Run i (c₃ .0)) in
     record {
       live = omega (arith, eqb-false (τ .period) 0 (T .0));

@@ -2,12 +2,10 @@
 pub mod list;
 
 ghost use mathlib.Core.Path.{_≡_};
-ghost use mathlib.Core.Bool.{_||_};
-ghost use lib.Dec.{eqb, ltb};
 ghost use Rattle.task.specs.Limits.{mostTasks, longestPeriod, latestOffset, longestHyperperiod};
 ghost use Rattle.task.specs.Tasks.{taskOf};
 ghost use Rattle.refusal.specs.Refusals.{findingOf};
-ghost use Rattle.task.specs.Checks.{taskRefusal};
+ghost use Rattle.task.specs.Checks.{isUnfit, taskRefusal};
 use card::Card;
 use refusal::Check;
 use refusal::Refusal;
@@ -46,6 +44,7 @@ impl Task {
     pub fn check(self, card: Card, number: usize) -> Check
         ensures { λ r. ⌜ findingOf r ≡ taskRefusal card number self ⌝ }
     {
+        // Both tests of the period come first: the order of the refusals is that of what follows alone.
         let unfit = is_unfit(self.period);
         let untimed = !card.times(self.period);
         if unfit {
@@ -80,7 +79,7 @@ impl Task {
 
 // A period that no list may have, whatever its card.
 fn is_unfit(period: usize) -> bool
-    ensures { λ r. ⌜ r ≡ (eqb period 0 || ltb longestPeriod period) ⌝ }
+    ensures { λ r. ⌜ r ≡ isUnfit period ⌝ }
 {
     if period == 0 {
         return true;

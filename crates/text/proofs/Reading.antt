@@ -1,4 +1,4 @@
--- The lines of a text, one after the other: what the loop knows at each.
+-- The lines of a text: the card's, and the tasks' one after the other, with what the loop knows at each.
 use mathlib.Core.Path.{_≡_, refl, _∙_, ap}
 use mathlib.Core.Bool.{true, false}
 use mathlib.Core.List.{List, [], _∷_, _++_}
@@ -73,20 +73,20 @@ card-end p [] e = never (cc)
 card-end p (b ∷ line) e = refl
 
 module _ (p : Policy) (s : List ℕ) (at end : ℕ) (is-end : end ≡ until newline (take (length s - at) (drop at s))) where
-  pub cards-not : isCard (take end (take (length s - at) (drop at s))) ≡ false
+  pub card-not : isCard (take end (take (length s - at) (drop at s))) ≡ false
       → cardOn p (parts newline (drop at s)) ≡ tasksOn Wide p [] 2 (parts newline (drop at s))
-  cards-not e = rw (by-end s at end is-end) (no-card p (take end (drop at s)) (behind newline (drop (at + end) s)) (rw rest-is at e))
+  card-not e = rw (by-end s at end is-end) (no-card p (take end (drop at s)) (behind newline (drop (at + end) s)) (rw rest-is at e))
 
   module _ (e : isCard (take end (take (length s - at) (drop at s))) ≡ true) where
     is-card : isCard (take end (drop at s)) ≡ true
     is-card = rw rest-is at e
 
-    pub cards-torn : length (take (length s - at) (drop at s)) ≤ end → cardOn p (parts newline (drop at s)) ≡ unread 2
-    cards-torn h = rw (by-torn s at end is-end h) (card-end p (take end (drop at s)) is-card)
+    pub card-torn : length (take (length s - at) (drop at s)) ≤ end → cardOn p (parts newline (drop at s)) ≡ unread 2
+    card-torn h = rw (by-torn s at end is-end h) (card-end p (take end (drop at s)) is-card)
 
-    pub cards-small : end < length (take (length s - at) (drop at s))
+    pub card-small : end < length (take (length s - at) (drop at s))
         → cardOn p (parts newline (drop at s)) ≡ tasksOn Small p [] 3 (parts newline (drop (at + end + 1) s))
-    cards-small h = rw (by-line s at end is-end h, parts-until newline (drop (at + end + 1) s), is-card)
+    card-small h = rw (by-line s at end is-end h, parts-until newline (drop (at + end + 1) s), is-card)
 
 -- what the loop over the lines keeps: the tasks so far, and that reading goes on from here
 pub record Reads (s : List ℕ) (c : Card) (p : Policy) (from first at n : ℕ) (own : Tasks) : Type 0 where

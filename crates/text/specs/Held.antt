@@ -6,4 +6,4 @@ use Rattle.text.specs.Reading.{Reading, unread, listed}
 
 abbrev pub held : Reading → Contents
 held (unread n) = record { found = Unread n; tasks = empty }
-held (listed c p l) = record { found = Listed c p; tasks = arrayOf l }
+held (listed card p l) = record { found = Listed card p; tasks = arrayOf l }

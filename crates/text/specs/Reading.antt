@@ -31,14 +31,14 @@ withTask (taskLine τ) n rest = rest τ
 
 -- after the last newline there is nothing, or a line that has none
 abbrev pub atEnd : Card → Policy → List Task → ℕ → List ℕ → Reading
-atEnd c p l n [] = listed c p l
-atEnd c p l n (b ∷ line) = unread n
+atEnd card p l n [] = listed card p l
+atEnd card p l n (b ∷ line) = unread n
 
 -- the lines from line n on, after a policy, a card and tasks
 abbrev pub tasksOn : Card → Policy → List Task → ℕ → List (List ℕ) → Reading
-tasksOn c p l n [] = unread n
-tasksOn c p l n (line ∷ []) = atEnd c p l n line
-tasksOn c p l n (line ∷ more ∷ lines) = withTask (lineOf line) n λ τ. tasksOn c p (l ++ τ ∷ []) (suc n) (more ∷ lines)
+tasksOn card p l n [] = unread n
+tasksOn card p l n (line ∷ []) = atEnd card p l n line
+tasksOn card p l n (line ∷ more ∷ lines) = withTask (lineOf line) n λ τ. tasksOn card p (l ++ τ ∷ []) (suc n) (more ∷ lines)
 
 abbrev pub smallIf : Bool → Reading → Reading → Reading
 smallIf true small wide = small
@@ -47,7 +47,7 @@ smallIf false small wide = wide
 -- the lines after a policy: `card small` and then the tasks, or the tasks for a wide card at once
 abbrev pub cardOn : Policy → List (List ℕ) → Reading
 cardOn p [] = unread 2
-cardOn p (line ∷ []) = atEnd Wide p [] 2 line
+cardOn p (line ∷ []) = tasksOn Wide p [] 2 (line ∷ [])
 cardOn p (line ∷ more ∷ lines) = smallIf (isCard line) (tasksOn Small p [] 3 (more ∷ lines)) (tasksOn Wide p [] 2 (line ∷ more ∷ lines))
 
 abbrev pub withPolicy : First → (Policy → Reading) → Reading

@@ -62,11 +62,11 @@ fn lines(s: &[u8]) -> Contents
     let First::Policy(policy) = policy_of(&s[..end]) else {
         return unread(1);
     };
-    cards(s, end + 1, policy)
+    after_policy(s, end + 1, policy)
 }
 
 // The lines from the second on: a list for a small card says so there, one for a wide card begins with its tasks.
-fn cards(s: &[u8], from: usize, policy: Policy) -> Contents
+fn after_policy(s: &[u8], from: usize, policy: Policy) -> Contents
     requires { ⌜ from ≤ length (now s) ⌝ }
     ensures { λ r. ⌜ r ≡ held (cardOn policy (parts newline (drop from (now (s .entry))))) ⌝ }
 {

@@ -15,10 +15,10 @@ use Rattle.answer.specs.declared.Answer.{Answer}
 use Rattle.answer.specs.Answers.{row}
 use Rattle.answer.specs.Promise.{Promised}
 use Rattle.answer.proofs.Pinned.{answer-pinned}
-use Rattle.words.specs.Words.{cardOf, policyOf, tasksOf, code, written, misread, ragged, either, Answered, AnsweredWords}
+use Rattle.words.specs.Words.{cardOf, policyOf, tasksOf, code, written, misread, ragged, notUnderstood, either, Answered, AnsweredWords}
 
 module _ (card policy : ℕ) (l : List Task) (startup cycle words : List ℕ) where
-  pub not-understood : (b : Bool) → b ≡ true → either card policy l startup cycle words b 4 startup cycle words
+  pub not-understood : (b : Bool) → b ≡ true → either card policy l startup cycle words b notUnderstood startup cycle words
   not-understood true e = record { is-code = refl; tables = record { startup-kept = refl; cycle-kept = refl }; words-kept = refl }
   not-understood false e = absurd (true≢false (sym e))
 

@@ -4,11 +4,14 @@ use mathlib.Core.List.{List, [], _∷_}
 use Prim.Native.Nat.{ℕ, zero, suc, _+_, _*_, _/_, _<_, _≤_}
 use native.Mathlib.Omega.{arith}
 use lib.ListN.{length}
-use Rattle.card.specs.declared.Card.the-variants.{Small}
+use Rattle.card.specs.declared.Card.the-variants.{Wide, Small}
 use Rattle.task.specs.Tasks.{task}
 use Rattle.schedule.specs.declared.Policy.the-variants.{Edf}
-use Rattle.words.specs.Words.{cardOf, policyOf, tasksOf}
+use Rattle.words.specs.Words.{wideCard, cardOf, policyOf, tasksOf}
 use Rattle.words.specs.Reading.{taskAt}
+
+pub wide-card : cardOf wideCard ≡ Wide
+wide-card = refl
 
 pub card-small : (n : ℕ) → 0 < n → cardOf n ≡ Small
 card-small zero h = absurd (omega arith)

@@ -15,6 +15,7 @@ use Rattle.answer.specs.declared.Answer.{Answer}
 use Rattle.answer.specs.Answers.{Row, refused, overloaded, missed, feasible, row}
 use Rattle.answer.specs.Promise.{Promised, Unchanged}
 
+-- the card of callers that name none (`wide-card`)
 abbrev pub wideCard : ℕ
 wideCard = 0
 

@@ -8,7 +8,7 @@ use lib.ListN.{length}
 use lib.Seq.{append-snoc}
 use borrow.Author.Tests.{eqb-true}
 use Rattle.card.specs.declared.Card.{Card}
-use Rattle.card.specs.declared.Card.the-variants.{Wide, Small as SmallCard}
+use Rattle.card.specs.declared.Card.the-variants.{Wide, Small}
 use Rattle.task.specs.declared.Task.{Task}
 use Rattle.task.specs.Tasks.{taskOf}
 use Rattle.schedule.specs.declared.Policy.{Policy}
@@ -27,7 +27,7 @@ use Rattle.text.specs.Reading.{mostBytes, Reading, withTask, tasksOn, smallIf, 
 use Rattle.writer.specs.Writing.{text, anyLarge}
 use Rattle.line.proofs.Parts.{never, joined, joined-parts}
 use Rattle.writer.proofs.Numbers.{number-is}
-use Rattle.writer.proofs.TextLines.{Small, not-large, lineText, fields, taskLines, cardLines, listLines, fields-joined, lines-joined}
+use Rattle.writer.proofs.TextLines.{Readable, not-large, lineText, fields, taskLines, cardLines, listLines, fields-joined, lines-joined}
 
 same-is : (s t : List ℕ) → same s t ≡ true → s ≡ t
 same-is [] [] e = refl
@@ -59,7 +59,7 @@ line-if true line τ e = (refl, e)
 line-if false line τ e = never (cc)
 
 abbrev Are : Task → List (List ℕ) → Type 0
-Are τ all = (all ≡ fields τ) × Small τ
+Are τ all = (all ≡ fields τ) × Readable τ
 
 fields-are : (all : List (List ℕ)) (τ : Task) → taskFields all ≡ taskLine τ → Are τ all
 fields-are [] τ e = never (cc)
@@ -74,7 +74,7 @@ fields-are (word ∷ all) τ e =
     (refl, record { offset-small = o; run-small = c; deadline-small = d; period-small = t })))))
     all (is-task .1))
 
-line-is : (line : List ℕ) (τ : Task) → lineOf line ≡ taskLine τ → (line ≡ lineText τ) × Small τ
+line-is : (line : List ℕ) (τ : Task) → lineOf line ≡ taskLine τ → (line ≡ lineText τ) × Readable τ
 line-is line τ e =
     let all = fields-are (parts space line) τ e in
     (sym (joined-parts space line) ∙ ap (joined space) (all .0) ∙ sym (fields-joined τ), all .1)
@@ -128,9 +128,9 @@ cards-are [] q c p l e = never (cc)
 cards-are (line ∷ []) q c p l e = list-are Wide (line ∷ []) 2 q c p l e
 cards-are (line ∷ more ∷ lines) q c p l e = go (isCard line) refl e
   where
-    go : (b : Bool) → isCard line ≡ b → smallIf b (tasksOn SmallCard q [] 3 (more ∷ lines)) (tasksOn Wide q [] 2 (line ∷ more ∷ lines)) ≡ listed c p l
+    go : (b : Bool) → isCard line ≡ b → smallIf b (tasksOn Small q [] 3 (more ∷ lines)) (tasksOn Wide q [] 2 (line ∷ more ∷ lines)) ≡ listed c p l
         → Listed (line ∷ more ∷ lines) q c p l
-    go true is e = rw (same-is line cardText is) (list-are SmallCard (more ∷ lines) 3 q c p l e)
+    go true is e = rw (same-is line cardText is) (list-are Small (more ∷ lines) 3 q c p l e)
     go false is e = list-are Wide (line ∷ more ∷ lines) 2 q c p l e
 
 -- one policy's text, or what is tried after it

@@ -8,7 +8,7 @@ use lib.Dec.{ltb}
 use lib.ListN.{length, length-append}
 use borrow.Author.Tests.{ltb-false}
 use Rattle.card.specs.declared.Card.{Card}
-use Rattle.card.specs.declared.Card.the-variants.{Wide, Small as SmallCard}
+use Rattle.card.specs.declared.Card.the-variants.{Wide, Small}
 use Rattle.task.specs.declared.Task.{Task}
 use Rattle.task.specs.Limits.{mostTasks}
 use Rattle.schedule.specs.declared.Policy.{Policy}
@@ -20,14 +20,14 @@ use Rattle.line.specs.Kinds.{policyText}
 use Rattle.text.specs.Reading.{mostBytes}
 use Rattle.writer.specs.Writing.{taskText, tasksText, cardLine, text, isLarge, anyLarge, unwritable}
 use Rattle.task.proofs.Refusing.{neither}
-use Rattle.writer.proofs.TextLines.{Small, small}
+use Rattle.writer.proofs.TextLines.{Readable, small}
 
 -- 4 letters, 4 spaces, a newline and 4 numbers
 task-length : (τ : Task)
     → length (taskText τ) ≡ 9 + length (decimal (τ .offset)) + length (decimal (τ .run)) + length (decimal (τ .deadline)) + length (decimal (τ .period))
 task-length τ = simp length-append (omega arith)
 
-most-task : (τ : Task) → Small τ → length (taskText τ) ≤ 33
+most-task : (τ : Task) → Readable τ → length (taskText τ) ≤ 33
 most-task τ s = omega (arith, task-length τ, six (s .offset-small), six (s .run-small), six (s .deadline-small), six (s .period-small))
   where
     six : {n : ℕ} → n ≤ largestNumber → length (decimal n) ≤ 6
@@ -50,7 +50,7 @@ policy-length Edf = (omega arith, omega arith)
 
 card-length : (c : Card) → length (cardLine c) ≤ 11
 card-length Wide = omega arith
-card-length SmallCard = omega arith
+card-length Small = omega arith
 
 pub text-length : (c : Card) (p : Policy) (l : List Task) → unwritable l ≡ false → length (text c p l) ≤ mostBytes
 text-length c p l e =
@@ -61,8 +61,8 @@ text-length c p l e =
 pub text-least : (c : Card) (p : Policy) (l : List Task) → 10 ≤ length (text c p l)
 text-least c p l = simp length-append (omega (arith, policy-length p))
 
--- the length is never the number of a refusal: 10 to 12 bytes for the policy alone, at least 21 with a card or a task
+-- the length is never the number of a refusal: 10 to 12 bytes for the policy alone, at least 21 with a small card or a task
 pub never-13 : (c : Card) (p : Policy) (l : List Task) → length (text c p l) ≡ 13 → ⊥
 never-13 Wide p [] e = omega (arith, policy-length p, rw length-append at e)
-never-13 SmallCard p [] e = omega (arith, policy-length p, rw length-append at e)
+never-13 Small p [] e = omega (arith, policy-length p, rw length-append at e)
 never-13 c p (τ ∷ l) e = omega (arith, policy-length p, least-task τ, simp length-append at e)

@@ -8,7 +8,7 @@ use lib.ListN.{length}
 use lib.Seq.{append-snoc}
 use borrow.Author.Tests.{le-ltb}
 use Rattle.card.specs.declared.Card.{Card}
-use Rattle.card.specs.declared.Card.the-variants.{Wide, Small as SmallCard}
+use Rattle.card.specs.declared.Card.the-variants.{Wide, Small}
 use Rattle.task.specs.declared.Task.{Task}
 use Rattle.task.specs.Limits.{mostTasks}
 use Rattle.schedule.specs.declared.Policy.{Policy}
@@ -24,9 +24,9 @@ use Rattle.task.proofs.Refusing.{neither}
 use Rattle.text.proofs.Reading.{no-card}
 use Rattle.writer.proofs.Numbers.{number-decimal}
 use Rattle.writer.proofs.Lengths.{text-length}
-use Rattle.writer.proofs.TextLines.{Small, small, lineText, taskLines, listLines, some-line, line-fields, text-lines}
+use Rattle.writer.proofs.TextLines.{Readable, small, lineText, taskLines, listLines, some-line, line-fields, text-lines}
 
-pub line-text : (τ : Task) → Small τ → lineOf (lineText τ) ≡ taskLine τ
+pub line-text : (τ : Task) → Readable τ → lineOf (lineText τ) ≡ taskLine τ
 line-text τ s =
     ap taskFields (line-fields τ)
     ∙ rw (number-decimal _ (s .offset-small), number-decimal _ (s .run-small), number-decimal _ (s .deadline-small), number-decimal _ (s .period-small))
@@ -52,8 +52,8 @@ tasks-text (τ ∷ m) c p l n e =
 card-text : (c : Card) (p : Policy) (l : List Task) → anyLarge l ≡ false → cardOn p (listLines c l) ≡ listed c p l
 card-text Wide p [] e = refl
 card-text Wide p (τ ∷ l) e = no-card p (lineText τ) (taskLines l) refl ∙ tasks-text (τ ∷ l) Wide p [] 2 e
-card-text SmallCard p l e =
-    some-line (λ all. cardOn p (cardText ∷ all) ≡ tasksOn SmallCard p [] 3 all) (λ more lines. refl) Wide l ∙ tasks-text l SmallCard p [] 3 e
+card-text Small p l e =
+    some-line (λ all. cardOn p (cardText ∷ all) ≡ tasksOn Small p [] 3 all) (λ more lines. refl) Wide l ∙ tasks-text l Small p [] 3 e
 
 lines-step : (line : List ℕ) (c : Card) (l : List Task) → linesOf (line ∷ listLines c l) ≡ withPolicy (firstOf line) λ p. cardOn p (listLines c l)
 lines-step line = some-line (λ all. linesOf (line ∷ all) ≡ withPolicy (firstOf line) λ p. cardOn p all) λ more lines. refl

@@ -6,7 +6,7 @@ use Prim.Native.Nat.{ℕ, _≤_, _<_}
 use native.Mathlib.Omega.{arith}
 use borrow.Author.Tests.{ltb-false, le-ltb, ne-eqb}
 use Rattle.card.specs.declared.Card.{Card}
-use Rattle.card.specs.declared.Card.the-variants.{Wide, Small as SmallCard}
+use Rattle.card.specs.declared.Card.the-variants.{Wide, Small}
 use Rattle.task.specs.declared.Task.{Task}
 use Rattle.schedule.specs.declared.Policy.{Policy}
 use Rattle.schedule.specs.declared.Policy.the-variants.{ListOrder, RateMonotonic, DeadlineMonotonic, Edf}
@@ -20,13 +20,13 @@ use Rattle.task.proofs.Refusing.{neither}
 use Rattle.line.proofs.Parts.{has, Without, joined, parts-joined, without-joined}
 
 -- the four numbers are small enough to be read
-pub record Small (τ : Task) : Type 0 where
+pub record Readable (τ : Task) : Type 0 where
   pub offset-small : τ .offset ≤ largestNumber
   pub run-small : τ .run ≤ largestNumber
   pub deadline-small : τ .deadline ≤ largestNumber
   pub period-small : τ .period ≤ largestNumber
 
-pub small : (τ : Task) → isLarge τ ≡ false → Small τ
+pub small : (τ : Task) → isLarge τ ≡ false → Readable τ
 small τ e =
     let T = neither _ _ e in
     let D = neither _ _ (T .0) in
@@ -38,7 +38,7 @@ small τ e =
       period-small = ltb-false _ _ (T .1);
     }
 
-pub not-large : (τ : Task) → Small τ → isLarge τ ≡ false
+pub not-large : (τ : Task) → Readable τ → isLarge τ ≡ false
 not-large τ s =
     rw (le-ltb _ _ (s .offset-small), le-ltb _ _ (s .run-small), le-ltb _ _ (s .deadline-small), le-ltb _ _ (s .period-small))
 
@@ -60,7 +60,7 @@ taskLines (τ ∷ l) = lineText τ ∷ taskLines l
 -- a card's line, if it has one
 abbrev pub cardLines : Card → List (List ℕ)
 cardLines Wide = []
-cardLines SmallCard = cardText ∷ []
+cardLines Small = cardText ∷ []
 
 -- the lines after the policy's
 abbrev pub listLines : Card → List Task → List (List ℕ)
@@ -76,7 +76,7 @@ fields-joined τ = regroup (bytes "task") (fieldText (τ .offset)) (fieldText (�
 pub some-line : (P : List (List ℕ) → Type 0) → ((line : List ℕ) (more : List (List ℕ)) → P (line ∷ more)) → (c : Card) (l : List Task) → P (listLines c l)
 some-line P some Wide [] = some [] []
 some-line P some Wide (τ ∷ l) = some (lineText τ) (taskLines l)
-some-line P some SmallCard l = some cardText (taskLines l)
+some-line P some Small l = some cardText (taskLines l)
 
 joined-on : (part : List ℕ) (c : Card) (l : List Task) → joined newline (part ∷ listLines c l) ≡ part ++ newline ∷ joined newline (listLines c l)
 joined-on part = some-line (λ all. joined newline (part ∷ all) ≡ part ++ newline ∷ joined newline all) λ line more. refl
@@ -90,7 +90,7 @@ tasks-joined (τ ∷ l) =
 
 list-joined : (c : Card) (l : List Task) → cardLine c ++ tasksText l ≡ joined newline (listLines c l)
 list-joined Wide l = tasks-joined l
-list-joined SmallCard l = ap (λ t. cardText ++ newline ∷ t) (tasks-joined l) ∙ sym (joined-on cardText Wide l)
+list-joined Small l = ap (λ t. cardText ++ newline ∷ t) (tasks-joined l) ∙ sym (joined-on cardText Wide l)
 
 pub lines-joined : (c : Card) (p : Policy) (l : List Task) → text c p l ≡ joined newline (policyText p ∷ listLines c l)
 lines-joined c p l = ap (λ t. policyText p ++ newline ∷ t) (list-joined c l) ∙ sym (joined-on (policyText p) c l)
@@ -116,7 +116,7 @@ lines-without (τ ∷ l) =
 
 list-without : (c : Card) (l : List Task) → All (Without newline) (listLines c l)
 list-without Wide l = lines-without l
-list-without SmallCard l = (refl, lines-without l)
+list-without Small l = (refl, lines-without l)
 
 policy-without : (p : Policy) → Without newline (policyText p)
 policy-without ListOrder = refl

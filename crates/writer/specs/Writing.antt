@@ -33,7 +33,7 @@ cardLine Wide = []
 cardLine Small = cardText ++ newline ∷ []
 
 abbrev pub text : Card → Policy → List Task → List ℕ
-text c p l = policyText p ++ newline ∷ (cardLine c ++ tasksText l)
+text card p l = policyText p ++ newline ∷ (cardLine card ++ tasksText l)
 
 abbrev pub isLarge : Task → Bool
 isLarge τ = ltb largestNumber (τ .offset) || ltb largestNumber (τ .run) || ltb largestNumber (τ .deadline) || ltb largestNumber (τ .period)
@@ -52,14 +52,14 @@ savedNumber (Length n) = n
 savedNumber Refused = 13
 
 -- `buffer` is as it was lent, `left` as it is left
-module _ (c : Card) (p : Policy) (l : List Task) (buffer : List ℕ) (r : Saved) (left : List ℕ) where
+module _ (card : Card) (p : Policy) (l : List Task) (buffer : List ℕ) (r : Saved) (left : List ℕ) where
   pub record IsRefused : Type 0 where
     pub is-refused : r ≡ Refused
     pub kept : left ≡ buffer
 
   pub record IsWritten : Type 0 where
-    pub is-length : r ≡ Length (length (text c p l))
-    pub later-kept : left ≡ text c p l ++ drop (length (text c p l)) buffer
+    pub is-length : r ≡ Length (length (text card p l))
+    pub later-kept : left ≡ text card p l ++ drop (length (text card p l)) buffer
 
   abbrev pub either : Bool → Type 0
   either true = IsRefused
@@ -67,4 +67,4 @@ module _ (c : Card) (p : Policy) (l : List Task) (buffer : List ℕ) (r : Saved)
 
   -- refused exactly where the list can't be written or the lent buffer is too short
   abbrev pub SavedAs : Type 0
-  SavedAs = either (unwritable l || ltb (length buffer) (length (text c p l)))
+  SavedAs = either (unwritable l || ltb (length buffer) (length (text card p l)))

@@ -7,11 +7,12 @@ use crate::paper::{Answer, MOST_TASKS};
 use crate::verdict::Verdict;
 
 /// A run without any of these fails.
-pub const LINES: [&str; 17] = [
+pub const LINES: [&str; 18] = [
     "unread, line 1 is a card line",
     "unread, line 2 begins as a card line does",
     "unread, a card line behind a card line",
     "unread, a card line behind a task",
+    "unread, a second card line behind a task",
     "unread, a task line behind a card line",
     "unread, a line past 255, small card",
     "small card, refused 1, no task",
@@ -38,16 +39,16 @@ pub fn add_unread(counts: &mut Counts, text: &[u8], line: u64) {
     let is_small = |line: &[u8]| line == SMALL_LINE.as_bytes();
     // Where line 2 has been read, a card's line there is a good one.
     let small = line > 2 && is_small(numbered(2));
-    let name = match line {
+    counts.note_if(small && line > 255, "unread, a line past 255, small card");
+    counts.note(match line {
         1 if is_small(unread) => "unread, line 1 is a card line",
         2 if unread.starts_with(b"card") => "unread, line 2 begins as a card line does",
         3 if small && is_small(unread) => "unread, a card line behind a card line",
-        3.. if !small && is_small(unread) => "unread, a card line behind a task",
+        3.. if small && is_small(unread) => "unread, a second card line behind a task",
+        3.. if is_small(unread) => "unread, a card line behind a task",
         3.. if small && unread.starts_with(b"task") => "unread, a task line behind a card line",
         _ => return,
-    };
-    counts.note(name);
-    counts.note_if(small && line > 255, "unread, a line past 255, small card");
+    });
 }
 
 /// A text that is read, and its verdict.

@@ -4,6 +4,7 @@ use native.Mathlib.Omega.{arith}
 use borrow.Author.Needs.{needs}
 use lib.ListN.{length, take}
 use lib.Seq.{length-take-le}
+use Rattle.card.specs.declared.Card.the-variants.{Wide}
 use Rattle.task.specs.Limits.{longestHyperperiod}
 use Rattle.task.specs.Tasks.{hyperperiod}
 use Rattle.divisor.proofs.Divisors.{is-of, is-above}
@@ -35,7 +36,7 @@ returns c =
     let x = k .before in
     let l = take (x .args .n) (x .args .items) in
     let n : length l ≡ x .args .n = length-take-le (x .args .n) (x .args .items) (omega (arith, x .good .0)) in
-    λ card ok. hyperperiod-refused card l (x .args .startup) (x .args .cycle) (omega arith) (omega arith) ok
+    hyperperiod-refused Wide l (x .args .startup) (x .args .cycle) (omega arith) (omega arith) (x .pre .1)
     (is-above longestHyperperiod (hyperperiod l) (sym (k .hyperperiod .ensures) ∙ c .enum-told .given .1))
 
 returns-2 : tie.Need-returns-2

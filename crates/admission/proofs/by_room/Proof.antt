@@ -7,7 +7,7 @@ use borrow.Author.Needs.{needs}
 use lib.ListN.{length, take}
 use lib.Seq.{length-take-le}
 use Rattle.refusal.specs.Refusals.{sound}
-use Rattle.card.specs.declared.Card.{Card}
+use Rattle.card.specs.declared.Card.the-variants.{Wide}
 use Rattle.task.specs.declared.Task.{Task}
 use Rattle.task.specs.Checks.{firstRefusal}
 use Rattle.admission.specs.declared.Measures.{Measures}
@@ -27,7 +27,7 @@ add-if1 : tie.Need-add-if1
 add-if1 c =
     let x = c .before in
     let l = take (x .args .n) (x .args .items) in
-    let few : latest l ≤ latestOffset = latest-least l latestOffset (λ i b. tasks-fine (x .pre .1 .0 .0) 0 l (x .pre .1 .0 .1) i b .soon) in
+    let few : latest l ≤ latestOffset = latest-least l latestOffset (λ i b. tasks-fine Wide 0 l (x .pre .1 .0) i b .soon) in
     omega (arith, c .latest .ensures)
 
 returns : tie.Need-returns
@@ -35,7 +35,7 @@ returns c =
     let x = c .before .before in
     let l = take (x .args .n) (x .args .items) in
     let n : length l ≡ x .args .n = length-take-le (x .args .n) (x .args .items) (omega (arith, x .good .0)) in
-    λ card ok. startup-refused card l (x .args .startup) (x .args .cycle) (omega arith) (omega arith) ok (omega arith)
+    startup-refused Wide l (x .args .startup) (x .args .cycle) (omega arith) (omega arith) (x .pre .1 .0) (omega arith)
     (omega (arith, c .before .latest .ensures))
 
 returns-2 : tie.Need-returns-2
@@ -43,16 +43,16 @@ returns-2 c =
     let x = c .before .before .before in
     let l = take (x .args .n) (x .args .items) in
     let n : length l ≡ x .args .n = length-take-le (x .args .n) (x .args .items) (omega (arith, x .good .0)) in
-    λ card ok. cycle-refused card l (x .args .startup) (x .args .cycle) (omega arith) (omega arith) ok (omega arith)
+    cycle-refused Wide l (x .args .startup) (x .args .cycle) (omega arith) (omega arith) (x .pre .1 .0) (omega arith)
     (omega (arith, c .before .before .latest .ensures)) (omega arith)
 
 load-requires : tie.Need-load-requires
 load-requires c κs = search needs
 
 -- a list with no refusal, and its measures
-admitted : (c : Card) (l : List Task) (startup cycle : ℕ) (m : Measures) → firstRefusal c l startup cycle ≡ sound → m ≡ measuresOf l →
-    IsSound c l startup cycle m
-admitted c l startup cycle m e f = record { no-refusal = e; measured = f }
+admitted : (l : List Task) (startup cycle : ℕ) (m : Measures) → firstRefusal Wide l startup cycle ≡ sound → m ≡ measuresOf l →
+    IsSound Wide l startup cycle m
+admitted l startup cycle m e f = record { no-refusal = e; measured = f }
 
 returns-3 : tie.Need-returns-3
 returns-3 c =
@@ -61,9 +61,9 @@ returns-3 c =
     let n : length l ≡ x .args .n = length-take-le (x .args .n) (x .args .items) (omega (arith, x .good .0)) in
     let M : c .before .before .before .latest .result ≡ latest l = c .before .before .before .latest .ensures in
     let H : x .args .whole ≡ hyperperiod l = x .pre .1 .1 .0 in
-    λ card ok. admitted card l (x .args .startup) (x .args .cycle)
+    admitted l (x .args .startup) (x .args .cycle)
     (record { latest = c .before .before .before .latest .result; hyperperiod = x .args .whole; load = c .load .result })
-    (not-refused card l (x .args .startup) (x .args .cycle) (omega arith) (omega arith) ok (omega arith) (omega arith) (omega arith))
+    (not-refused Wide l (x .args .startup) (x .args .cycle) (omega arith) (omega arith) (x .pre .1 .0) (omega arith) (omega arith) (omega arith))
     (rw (M, c .load .ensures, H) refl)
 
 pub by-room-spec : {M : Type 1} → statement M

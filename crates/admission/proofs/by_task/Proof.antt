@@ -5,7 +5,7 @@ use borrow.Author.Needs.{needs}
 use lib.ListN.{length, take}
 use lib.Seq.{length-take-le}
 use Rattle.refusal.specs.Refusals.{findingOf}
-use Rattle.admission.proofs.Admitting.{task-refused}
+use Rattle.admission.proofs.Admitting.{task-refused, wide-tasks, admits-on}
 use Rattle.admission.proofs.by_task.Statement.{statement}
 use Rattle.admission.proofs.by_task.Tie as tie
 
@@ -21,7 +21,8 @@ enum-told c = search needs
 by-hyperperiod-requires : tie.Need-by-hyperperiod-requires
 by-hyperperiod-requires c κs =
     let k = c .before .before in
-    (k .before .pre, (k .before .args .card, sym (k .check-all .ensures) ∙ ap findingOf (c .enum-told .given .1)))
+    let x = k .before .args in
+    (k .before .pre, wide-tasks (x .card) (take (x .n) (x .items)) (sym (k .check-all .ensures) ∙ ap findingOf (c .enum-told .given .1)))
 
 returns : tie.Need-returns
 returns c =
@@ -36,7 +37,8 @@ returns-2 : tie.Need-returns-2
 returns-2 c =
     let e = c .before in
     let k = e .before .before in
-    c .by-hyperperiod .ensures (k .before .args .card) (sym (k .check-all .ensures) ∙ ap findingOf (e .enum-told .given .1))
+    let x = k .before .args in
+    admits-on (x .card) (take (x .n) (x .items)) (sym (k .check-all .ensures) ∙ ap findingOf (e .enum-told .given .1)) (x .startup) (x .cycle) (c .by-hyperperiod .result) (c .by-hyperperiod .ensures)
 
 pub by-task-spec : {M : Type 1} → statement M
 by-task-spec =

@@ -49,11 +49,11 @@ returns-2 c =
     ∙ rw (c .before .enum-told .given .1) in
     c .unread2 .ensures ∙ sym (ap held is-unread)
 
-add-cards : tie.Need-add-cards
-add-cards c = search needs
+add-after-policy : tie.Need-add-after-policy
+add-after-policy c = search needs
 
-cards-requires : tie.Need-cards-requires
-cards-requires c κs = search needs
+after-policy-requires : tie.Need-after-policy-requires
+after-policy-requires c κs = search needs
 
 returns-3 : tie.Need-returns-3
 returns-3 c =
@@ -65,7 +65,7 @@ returns-3 c =
     let goes-on : linesOf (parts newline s) ≡ cardOn p (parts newline (drop (b .before2 .result + 1) s)) =
     lines-first s (b .before2 .result) (b .before2 .ensures) (e .if1 .left) (k .policy-of .result) (k .policy-of .ensures)
     ∙ rw (c .before .before .policy .given .1) in
-    c .cards .ensures ∙ sym (ap held goes-on)
+    c .after-policy .ensures ∙ sym (ap held goes-on)
 
 pub lines-spec : {M : Type 1} → statement M
 lines-spec =
@@ -80,6 +80,6 @@ lines-spec =
     enum-told
     unread-requires-2
     returns-2
-    add-cards
-    cards-requires
+    add-after-policy
+    after-policy-requires
     returns-3)

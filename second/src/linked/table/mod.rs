@@ -11,7 +11,7 @@ use crate::random::Random;
 use crate::verdict::judge;
 use std::fmt::Display;
 
-/// A list to try, with what the paper says of it; None where it says nothing.
+/// A list to try, with what was worked out of it; None where that says nothing.
 struct Tried {
     name: &'static str,
     card: u64,

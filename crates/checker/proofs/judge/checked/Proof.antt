@@ -2,7 +2,6 @@
 use mathlib.Core.List.{List}
 use Prim.Native.Nat.{ℕ}
 use native.Mathlib.Omega.{arith}
-use lib.ListN.{length}
 use Rattle.task.specs.declared.Task.{Task}
 use Rattle.task.specs.declared.list.Tasks.{Tasks}
 use Rattle.checker.proofs.Admitted.{refused, first-sound, promised}
@@ -27,9 +26,9 @@ judged-requires c κs =
     let e = c .before .before .before in
     let a = e .before .before in
     let x = a .before .before .before in
-    let f = first-sound (x .args .card) (list (x .args .items) (x .args .count)) (length (x .args .startup .now)) (length (x .args .cycle .now))
+    let f = first-sound (x .args .card) (list (x .args .items) (x .args .count)) (x .args .startup .now) (x .args .cycle .now)
     (a .admit .result) (e .admitted2 .given .0 .0) (e .admitted2 .given .1) (a .admit .ensures) (omega (arith, x .good .0)) in
-    (f .0, ((x .args .card, f .1), f .2))
+    (f .0, (f .1, f .2))
 
 returns : tie.Need-returns
 returns c =
@@ -50,8 +49,8 @@ returns-2 c =
     let e = j .before .before .before .before in
     let a = e .before .before in
     let x = a .before .before .before in
-    promised (x .args .card) (list (x .args .items) (x .args .count)) (length (x .args .startup .now)) (length (x .args .cycle .now)) (a .admit .result) (e .admitted2 .given .0 .0)
-    (e .admitted2 .given .1) (a .admit .ensures) (omega (arith, x .good .0)) (x .args .policy) (x .args .startup .now) (x .args .cycle .now) _ _ (j .judged .result) (j .judged .ensures (x .args .card))
+    promised (x .args .card) (list (x .args .items) (x .args .count)) (x .args .startup .now) (x .args .cycle .now) (a .admit .result) (e .admitted2 .given .0 .0)
+    (e .admitted2 .given .1) (a .admit .ensures) (x .args .policy) _ _ (j .judged .result) (j .judged .ensures)
 
 pub checked-spec : {M : Type 1} → statement M
 checked-spec =

@@ -8,7 +8,7 @@ use Rattle.checker.proofs.judge.judged.Tie as tie
 returns : tie.Need-returns
 returns c =
     let x = c .before .before .before in
-    λ card ok. overloaded card (x .args .policy) (take (x .args .n) (x .args .items)) (x .args .startup .now) (x .args .cycle .now) (x .args .measures) ok (x .pre .1 .1)
+    overloaded (x .args .policy) (take (x .args .n) (x .args .items)) (x .args .startup .now) (x .args .cycle .now) (x .args .measures) (x .pre .1 .0) (x .pre .1 .1)
     (c .if1 .taken)
 
 scheduled-requires : tie.Need-scheduled-requires

@@ -24,7 +24,7 @@ begin-requires c κs =
     let room : x .args .n ≤ length (x .args .items) = omega (arith, x .good .0) in (
       (
         take (x .args .n) (x .args .items),
-        loaded (s .spread .ensures) room (x .pre .1 .0 .0) (length (x .args .startup .now)) (length (x .args .cycle .now)) (x .pre .1 .0 .1),
+        loaded (s .spread .ensures) room (length (x .args .startup .now)) (length (x .args .cycle .now)) (x .pre .1 .0),
         fresh (s .spread .ensures) room zeros (x .pre .0),
       ),
       record { owed-size = refl; next-size = s .spread .ensures .sized .keys-size; dues-size = refl; keys-size = refl },
@@ -37,12 +37,11 @@ tables-requires c κs =
     let x = s .before .before .before .before .before .before .before in
     let l = take (x .args .n) (x .args .items) in
     let room : x .args .n ≤ length (x .args .items) = omega (arith, x .good .0) in
-    let L = loaded (s .spread .ensures) room (x .pre .1 .0 .0) (length (x .args .startup .now)) (length (x .args .cycle .now)) (x .pre .1 .0 .1) in (
+    let L = loaded (s .spread .ensures) room (length (x .args .startup .now)) (length (x .args .cycle .now)) (x .pre .1 .0) in (
       l,
       L,
       b .begin .ensures l L (fresh (s .spread .ensures) room zeros (x .pre .0)),
-      x .pre .1 .0 .0,
-      ready (x .pre .1 .0 .0) (x .args .policy) l (x .args .startup .now) (x .args .cycle .now) (x .args .measures) (x .pre .1 .0 .1) (x .pre .1 .1 .0) (x .pre .1 .1 .1),
+      ready (x .args .policy) l (x .args .startup .now) (x .args .cycle .now) (x .args .measures) (x .pre .1 .0) (x .pre .1 .1 .0) (x .pre .1 .1 .1),
     )
 
 same-length : tie.Need-same-length
@@ -59,9 +58,9 @@ returns c =
     let x = s .before .before .before .before .before .before .before in
     let l = take (x .args .n) (x .args .items) in
     let room : x .args .n ≤ length (x .args .items) = omega (arith, x .good .0) in
-    let L = loaded (s .spread .ensures) room (x .pre .1 .0 .0) (length (x .args .startup .now)) (length (x .args .cycle .now)) (x .pre .1 .0 .1) in
-    λ card ok. t .tables .ensures l L (b .begin .ensures l L (fresh (s .spread .ensures) room zeros (x .pre .0)))
-    card (ready card (x .args .policy) l (x .args .startup .now) (x .args .cycle .now) (x .args .measures) ok (x .pre .1 .1 .0) (x .pre .1 .1 .1))
+    let L = loaded (s .spread .ensures) room (length (x .args .startup .now)) (length (x .args .cycle .now)) (x .pre .1 .0) in
+    t .tables .ensures l L (b .begin .ensures l L (fresh (s .spread .ensures) room zeros (x .pre .0)))
+    (ready (x .args .policy) l (x .args .startup .now) (x .args .cycle .now) (x .args .measures) (x .pre .1 .0) (x .pre .1 .1 .0) (x .pre .1 .1 .1))
 
 pub scheduled-spec : {M : Type 1} → statement M
 scheduled-spec =

@@ -9,12 +9,12 @@ use Rattle.checker.proofs.tables.tables.Statement.{statement}
 use Rattle.checker.proofs.tables.tables.Tie as tie
 
 add-lead : tie.Need-add-lead
-add-lead c = omega (arith, small (c .before .before .before .pre .4))
+add-lead c = omega (arith, small (c .before .before .before .pre .3))
 
 stretch-requires : tie.Need-stretch-requires
 stretch-requires c κs =
     let x = c .before .before .before .before .before .before .before .before in
-    ((x .pre .0, x .pre .1, x .pre .2), (omega (arith, small (x .pre .4)), startup-fits (x .pre .4)))
+    ((x .pre .0, x .pre .1, x .pre .2), (omega (arith, small (x .pre .3)), startup-fits (x .pre .3)))
 
 same-length : tie.Need-same-length
 same-length c = search needs
@@ -22,7 +22,7 @@ same-length c = search needs
 returns : tie.Need-returns
 returns c =
     let s = c .before .before .before .before in
-    λ l L I card R. missed-first R (s .stretch .ensures l L I) (omega (arith, L .counted, c .if1 .taken))
+    λ l L I R. missed-first R (s .stretch .ensures l L I) (omega (arith, L .counted, c .if1 .taken))
 
 stretch-requires-2 : tie.Need-stretch-requires-2
 stretch-requires-2 c κs =
@@ -31,7 +31,7 @@ stretch-requires-2 c κs =
     let x = s .before .before .before .before .before .before .before .before .before in
     let L = x .pre .1 in
     let I = rw zero-add at (s .stretch .ensures (x .pre .0) L (x .pre .2) .goes-on (omega (arith, L .counted, e .if1 .left))) in
-    ((x .pre .0, L, I), (omega (arith, small (x .pre .4)), cycle-fits (x .pre .4)))
+    ((x .pre .0, L, I), (omega (arith, small (x .pre .3)), cycle-fits (x .pre .3)))
 
 same-length-2 : tie.Need-same-length-2
 same-length-2 c = search needs
@@ -44,7 +44,7 @@ returns-2 c =
     let r = c .before .before .before .before in
     let e = r .before .before .before .before .before .before in
     let s = e .before .before .before .before in
-    λ l L I card R.
+    λ l L I R.
     let on : length l ≤ s .stretch .result .missed = omega (arith, L .counted, e .if1 .left) in
     let a = s .stretch .ensures l L I in
     missed-later R a on (r .stretch2 .ensures l L (rw zero-add at (a .goes-on on))) (omega (arith, L .counted, c .if2 .taken))
@@ -60,7 +60,7 @@ returns-3 c =
     let r = c .before .before .before .before in
     let e = r .before .before .before .before .before .before in
     let s = e .before .before .before .before in
-    λ l L I card R.
+    λ l L I R.
     let on : length l ≤ s .stretch .result .missed = omega (arith, L .counted, e .if1 .left) in
     let a = s .stretch .ensures l L I in
     never-missed R a on (r .stretch2 .ensures l L (rw zero-add at (a .goes-on on))) (omega (arith, L .counted, c .if2 .left))

@@ -1,14 +1,14 @@
 -- `Task::check` meets its contract: each `return` is at the first test of `taskRefusal` that holds.
 use mathlib.Core.Path.{_≡_, sym, ap, _∙_}
-use mathlib.Core.Bool.{not, false, _||_}
-use lib.Dec.{eqb, ltb}
+use mathlib.Core.Bool.{not, false}
+use lib.Dec.{ltb}
 use borrow.Author.Needs.{needs}
 use borrow.Author.Tests.{eq-eqb, ne-eqb, lt-ltb, le-ltb}
 use Rattle.refusal.specs.declared.Refusal.the-variants.{Offset}
 use Rattle.refusal.specs.Refusals.{refusedIf}
 use Rattle.card.specs.Cards.{isTimed}
-use Rattle.task.specs.Limits.{longestPeriod, latestOffset}
-use Rattle.task.specs.Checks.{taskRefusal}
+use Rattle.task.specs.Limits.{latestOffset}
+use Rattle.task.specs.Checks.{isUnfit, taskRefusal}
 use Rattle.task.proofs.Task.check.Statement.{statement}
 use Rattle.task.proofs.Task.check.Tie as tie
 use Rattle.task.proofs.Task.check.Reads as reads
@@ -28,7 +28,7 @@ times-requires c κs = search needs
 -- the two tests of the period, as the code has found them
 unfit : (c : lts.After-times called reads.Pre reads.Post) →
     let x = c .before .before .args in
-    (eqb (x .self .period) 0 || ltb longestPeriod (x .self .period)) ≡ c .before .is-unfit .result
+    isUnfit (x .self .period) ≡ c .before .is-unfit .result
 unfit c = sym (c .before .is-unfit .ensures)
 
 untimed : (c : lts.After-times called reads.Pre reads.Post) →
@@ -47,7 +47,7 @@ returns-2 c =
 
 -- the period is fit, and the card times it
 fit : (c : lts.Else2 called reads.Pre reads.Post) →
-    let x = c .before .before .before .before .args in (eqb (x .self .period) 0 || ltb longestPeriod (x .self .period)) ≡ false
+    let x = c .before .before .before .before .args in isUnfit (x .self .period) ≡ false
 fit c = unfit (c .before .before) ∙ c .before .if1 .left
 
 timed : (c : lts.Else2 called reads.Pre reads.Post) →

@@ -1,4 +1,4 @@
--- `cards` meets its contract: the line after the policy, by whether it is the card's.
+-- `after_policy` meets its contract: the line after the policy, by whether it is the card's.
 use mathlib.Core.Path.{sym, _∙_, ap}
 use Prim.Native.Nat.{_-_}
 use lib.ListN.{length, take, drop}
@@ -7,9 +7,9 @@ use borrow.Author.Tests.{not-true, not-false}
 use Rattle.decimal.specs.Bytes.{newline}
 use Rattle.text.specs.Held.{held}
 use Rattle.line.proofs.Places.{until-taken}
-use Rattle.text.proofs.Reading.{cards-not, cards-torn, cards-small}
-use Rattle.text.proofs.cards.Statement.{statement}
-use Rattle.text.proofs.cards.Tie as tie
+use Rattle.text.proofs.Reading.{card-not, card-torn, card-small}
+use Rattle.text.proofs.after_policy.Statement.{statement}
+use Rattle.text.proofs.after_policy.Tie as tie
 
 sub-rest : tie.Need-sub-rest
 sub-rest c = search needs
@@ -41,7 +41,7 @@ returns c =
     let b = k .before .before in
     let x = b .before .before .before .args in
     let is-not = sym (k .is-card .ensures) ∙ not-true (k .is-card .result) (c .before .if1 .taken) in
-    c .tasks .ensures ∙ sym (ap held (cards-not (x .policy) (x .s .now) (x .from) (b .before2 .result) (b .before2 .ensures) is-not))
+    c .tasks .ensures ∙ sym (ap held (card-not (x .policy) (x .s .now) (x .from) (b .before2 .result) (b .before2 .ensures) is-not))
 
 unread-requires : tie.Need-unread-requires
 unread-requires c κs = search needs
@@ -53,7 +53,7 @@ returns-2 c =
     let b = k .before .before in
     let x = b .before .before .before .args in
     let is = sym (k .is-card .ensures) ∙ not-false (k .is-card .result) (e .if1 .left) in
-    c .unread .ensures ∙ sym (ap held (cards-torn (x .policy) (x .s .now) (x .from) (b .before2 .result) (b .before2 .ensures) is (c .before .if2 .taken)))
+    c .unread .ensures ∙ sym (ap held (card-torn (x .policy) (x .s .now) (x .from) (b .before2 .result) (b .before2 .ensures) is (c .before .if2 .taken)))
 
 add-tasks : tie.Need-add-tasks
 add-tasks c = search needs
@@ -71,10 +71,10 @@ returns-3 c =
     let b = k .before .before in
     let x = b .before .before .before .args in
     let is = sym (k .is-card .ensures) ∙ not-false (k .is-card .result) (e .if1 .left) in
-    c .tasks2 .ensures ∙ sym (ap held (cards-small (x .policy) (x .s .now) (x .from) (b .before2 .result) (b .before2 .ensures) is (c .before .if2 .left)))
+    c .tasks2 .ensures ∙ sym (ap held (card-small (x .policy) (x .s .now) (x .from) (b .before2 .result) (b .before2 .ensures) is (c .before .if2 .left)))
 
-pub cards-spec : {M : Type 1} → statement M
-cards-spec =
+pub after-policy-spec : {M : Type 1} → statement M
+after-policy-spec =
     tie.close
     (tie.spec
     sub-rest
