@@ -52,6 +52,7 @@ fn on_small(period: usize) -> bool
     among(&table, period)
 }
 
+// Whether a table has a period, entry by entry.
 fn among(table: &[usize], period: usize) -> bool
     ensures { λ r. ⌜ r ≡ isAmong (now (table .entry)) period ⌝ }
 {
