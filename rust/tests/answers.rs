@@ -2,8 +2,8 @@
 
 mod lists;
 
-use lists::{task, LIST_B};
-use sholakpite::{check, Answer, Plan, Policy, Task, IDLE};
+use lists::{task, LIST_B, PLAN_B};
+use sholakpite::{check, Answer, Policy, Task, IDLE};
 
 /// The answer, and both buffers, filled with 99 before.
 fn checked(
@@ -20,20 +20,11 @@ fn checked(
 
 #[test]
 fn list_b_is_feasible() {
-    let plan = Plan {
-        latest: 1,
-        hyperperiod: 4,
-        load: 3,
-        startup_idle: 1,
-        cycle_idle: 1,
-        startup_preemptions: 2,
-        cycle_preemptions: 1,
-    };
     let startup = vec![0, 1, 0, IDLE, 0, 99];
     let cycle = vec![1, 0, IDLE, 0, 99];
     assert_eq!(
         checked(&LIST_B, Policy::EarliestDeadlineFirst, 6, 5),
-        (Answer::Feasible(plan), startup, cycle)
+        (Answer::Feasible(PLAN_B), startup, cycle)
     );
 }
 

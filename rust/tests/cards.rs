@@ -2,10 +2,10 @@
 
 mod lists;
 
-use lists::{task, LIST_B};
+use lists::{task, LIST_B, PLAN_B};
 use sholakpite::{
-    check, check_card, check_tasks_card, check_words, check_words_card, Answer, Card, Plan, Policy,
-    Task, IDLE, ROW,
+    check, check_card, check_tasks_card, check_words, check_words_card, Answer, Card, Policy, Task,
+    IDLE, ROW,
 };
 
 const EDF: Policy = Policy::EarliestDeadlineFirst;
@@ -49,18 +49,9 @@ fn feasible(card: Card, list: &[Task]) {
 
 #[test]
 fn list_b_is_the_same_on_either_card() {
-    let plan = Plan {
-        latest: 1,
-        hyperperiod: 4,
-        load: 3,
-        startup_idle: 1,
-        cycle_idle: 1,
-        startup_preemptions: 2,
-        cycle_preemptions: 1,
-    };
     for card in [Card::Wide, Card::Small] {
         let (answer, startup, cycle) = checked(card, &LIST_B);
-        assert_eq!(answer, Answer::Feasible(plan));
+        assert_eq!(answer, Answer::Feasible(PLAN_B));
         assert_eq!(startup[..6], [0, 1, 0, IDLE, 0, UNWRITTEN]);
         assert_eq!(cycle[..5], [1, 0, IDLE, 0, UNWRITTEN]);
     }
