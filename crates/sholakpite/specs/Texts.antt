@@ -3,14 +3,13 @@ use mathlib.Core.Path.{_≡_}
 use mathlib.Core.Bool.{Bool, true, false, _||_}
 use mathlib.Core.List.{List}
 use Prim.Native.Nat.{ℕ}
-use lib.Dec.{ltb}
 use Rattle.decimal.specs.declared.Written.{Written}
 use Rattle.decimal.specs.declared.Written.the-variants.{Length, Short}
 use Rattle.text.specs.Reading.{reading}
 use Rattle.writer.specs.declared.Saved.{Saved}
 use Rattle.writer.specs.Writing.{SavedAs, savedNumber}
 use Rattle.output.specs.Output.{Printed}
-use Rattle.words.specs.Words.{cardOf, policyOf, tasksOf, lastCard, lastPolicy, ragged, notUnderstood}
+use Rattle.words.specs.Words.{cardOf, policyOf, tasksOf, unnamed, ragged, notUnderstood}
 
 -- the output's length, or 0 for a buffer that is shorter: no output is empty (`output-full`)
 abbrev pub lengthOf : Written → ℕ
@@ -25,7 +24,7 @@ pub record AnsweredText (input buffer : List ℕ) (n : ℕ) (left : List ℕ) : 
 
 -- the words are not a multiple of four, the card is above 1, or the policy is above 3
 abbrev pub misreadText : ℕ → ℕ → List ℕ → Bool
-misreadText card policy list = ragged list || ltb lastCard card || ltb lastPolicy policy
+misreadText card policy list = ragged list || unnamed card policy
 
 module _ (card policy : ℕ) (list buffer : List ℕ) where
   pub record NotUnderstood (n : ℕ) (left : List ℕ) : Type 0 where

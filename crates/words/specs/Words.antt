@@ -67,9 +67,13 @@ written r words = values r ++ drop (length (values r)) words
 abbrev pub rowLength : ℕ
 rowLength = 8
 
--- the card is above 1, the policy is above 3, or the answer's buffer is shorter than eight
+-- the card is above 1, or the policy is above 3
+abbrev pub unnamed : ℕ → ℕ → Bool
+unnamed card policy = ltb lastCard card || ltb lastPolicy policy
+
+-- or the answer's buffer is shorter than eight
 abbrev pub misread : ℕ → ℕ → List ℕ → Bool
-misread card policy words = ltb lastCard card || ltb lastPolicy policy || ltb (length words) rowLength
+misread card policy words = unnamed card policy || ltb (length words) rowLength
 
 -- O, C, D and T
 abbrev pub taskWords : ℕ
