@@ -1,13 +1,14 @@
 -- The promise of `admit` leaves one answer: any two that are permitted are equal.
 use mathlib.Core.Path.{◌≡◌, sym, ap, ap₂, ◌∙◌}
-use mathlib.Core.List.{List}
-use Prim.Native.Nat.{ℕ}
+use mathlib.Core.List.{List, ◌++◌}
+use Prim.Native.Nat.{ℕ, ◌-◌}
 use native.Mathlib.Omega.{arith}
-use lib.ListN.{length}
+use lib.ListN.{length, take, replicate}
 use Rattle.card.specs.declared.Card.{Card}
 use Rattle.task.specs.declared.Task.{Task}
 use Rattle.task.specs.declared.list.Tasks.{Tasks}
 use Rattle.task.specs.Limits.{most_tasks}
+use Rattle.task.specs.Tasks.{nobody}
 use Rattle.task.specs.Arrays.{Holds}
 use Rattle.task.proofs.Held.{held}
 use Rattle.refusal.specs.Refusals.{number_of, refused}
@@ -29,4 +30,6 @@ admits_once c l startup cycle (Sound m) (Sound k) x y = ap Sound (x.measured ∙
 -- and so for the array that is handed over, since it holds a list
 pub admit_pinned : (c : Card) (ts : Tasks) → length ts.items ≡ most_tasks → (startup cycle : ℕ) (a a' : Admission) →
     ((l : List Task) → Holds ts l → Admits c l startup cycle a) → ((l : List Task) → Holds ts l → Admits c l startup cycle a') → a ≡ a'
-admit_pinned c ts full startup cycle a a' x y = let h = held ts full in admits_once c _ startup cycle a a' (x _ h) (y _ h)
+admit_pinned c ts full startup cycle a a' x y =
+    let l : List Task = take ts.count ts.items ++ replicate (ts.count - most_tasks) nobody in
+    let h = held ts full in admits_once c l startup cycle a a' (x l h) (y l h)

@@ -1,4 +1,6 @@
 // Which list is checked further, and what it measures. Document 01, "What comes back".
+#![tactic(auto)]
+
 mod measure;
 
 ghost use Rattle.std.specs.Prelude.{◌≡◌, List, ◌<◌, ◌≤◌, take};
@@ -18,7 +20,7 @@ use task::Task;
 use task::list::Tasks;
 
 // M, H and L.
-#[derive(Drop)]
+#[derive(Clone, Copy)]
 pub struct Measures {
     pub latest: usize,
     pub hyperperiod: usize,
@@ -26,7 +28,7 @@ pub struct Measures {
 }
 
 // The first refusal of a list for a card and two buffer lengths, or the list's measures where there is none.
-#[derive(Drop)]
+#[derive(Clone, Copy)]
 pub enum Admission {
     Refused(Refusal, usize),
     Sound(Measures),
@@ -84,8 +86,8 @@ fn check_all(items: [Task; Task::MOST], n: usize, card: Card) -> Check
 
 // Refusal 6, and then the later ones. Where a card refuses none of the tasks, the rest is as on a wide one.
 fn by_hyperperiod(items: [Task; Task::MOST], n: usize, startup: usize, cycle: usize) -> Admission
-    requires n_nonzero { (0 < n) × (n ≤ most_tasks) }
-    requires value { tasks_refusal Wide 0 (take n items) ≡ sound }
+    requires some { (0 < n) × (n ≤ most_tasks) }
+    requires no_refusal { tasks_refusal Wide 0 (take n items) ≡ sound }
     ensures { Admits Wide (take n items) startup cycle result }
 {
     let whole = measure::hyperperiod(items, n);
@@ -103,9 +105,9 @@ fn by_room(
     startup: usize,
     cycle: usize,
 ) -> Admission
-    requires n_nonzero { (0 < n) × (n ≤ most_tasks) }
-    requires value { tasks_refusal Wide 0 (take n items) ≡ sound }
-    requires whole_value { (whole ≡ hyperperiod (take n items)) × (whole ≤ longest_hyperperiod) }
+    requires some { (0 < n) × (n ≤ most_tasks) }
+    requires no_refusal { tasks_refusal Wide 0 (take n items) ≡ sound }
+    requires whole_is { (whole ≡ hyperperiod (take n items)) × (whole ≤ longest_hyperperiod) }
     ensures { Admits Wide (take n items) startup cycle result }
 {
     let latest = measure::latest(items, n);

@@ -28,8 +28,8 @@ pub(crate) fn latest(items: [Task; Task::MOST], n: usize) -> usize
 
 // The least common multiple of all periods. Once it is above the limit it stays there, so the fold ends early.
 pub(crate) fn hyperperiod(items: [Task; Task::MOST], n: usize) -> Multiple
-    requires n_le_most_tasks { n ≤ most_tasks }
-    requires value { tasks_refusal Wide 0 (take n items) ≡ sound }
+    requires few { n ≤ most_tasks }
+    requires no_refusal { tasks_refusal Wide 0 (take n items) ≡ sound }
     ensures { result ≡ within longest_hyperperiod (hyperperiod (take n items)) }
 {
     let mut whole: usize = 1;
@@ -50,9 +50,9 @@ pub(crate) fn hyperperiod(items: [Task; Task::MOST], n: usize) -> Multiple
 
 // The slots that all tasks want in `whole` instants.
 pub(crate) fn load(items: [Task; Task::MOST], n: usize, whole: usize) -> usize
-    requires n_le_most_tasks { n ≤ most_tasks }
-    requires value { tasks_refusal Wide 0 (take n items) ≡ sound }
-    requires whole_le_longest_hyperperiod { whole ≤ longest_hyperperiod }
+    requires few { n ≤ most_tasks }
+    requires no_refusal { tasks_refusal Wide 0 (take n items) ≡ sound }
+    requires limited { whole ≤ longest_hyperperiod }
     ensures { result ≡ load (take n items) whole }
 {
     let mut slots: usize = 0;

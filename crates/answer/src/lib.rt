@@ -1,4 +1,6 @@
 // What comes back from a check. Document 01, "What comes back".
+#![tactic(auto)]
+
 ghost use Rattle.std.specs.Prelude.{◌≡◌};
 ghost use Rattle.schedule.specs.Job.{idle};
 ghost use Rattle.answer.specs.Tables.{byte_of};
@@ -9,7 +11,7 @@ use refusal::Refusal;
 pub const IDLE: u8 = 255;
 
 // What is said of a feasible list: M, H and L, and the counts of the two parts.
-#[derive(Drop)]
+#[derive(Clone, Copy)]
 pub struct Plan {
     pub latest: usize,
     pub hyperperiod: usize,
@@ -20,7 +22,7 @@ pub struct Plan {
     pub cycle_preemptions: usize,
 }
 
-#[derive(Drop)]
+#[derive(Clone, Copy)]
 pub enum Answer {
     Refused(Refusal, usize),
     Overloaded { load: usize, hyperperiod: usize },

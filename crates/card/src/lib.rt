@@ -1,9 +1,11 @@
 // The card that a list is for, and the periods that its timer has. Request #105.
+#![tactic(auto)]
+
 ghost use Rattle.std.specs.Prelude.{◌≡◌};
 ghost use Rattle.card.specs.Cards.{is_timed, is_divisor};
 ghost use Rattle.card.specs.Table.{is_among};
 
-#[derive(Drop)]
+#[derive(Clone, Copy)]
 pub enum Card {
     Wide,
     Small,

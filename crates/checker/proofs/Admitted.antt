@@ -23,7 +23,6 @@ use Rattle.admission.specs.declared.Admission.TheVariants.{Refused, Sound}
 use Rattle.admission.specs.Admissions.{measures_of, IsSound, Admits}
 use Rattle.schedule.specs.declared.Policy.{Policy}
 use Rattle.answer.specs.declared.Answer.{Answer}
-use Rattle.answer.specs.declared.Answer.TheVariants as Answer
 use Rattle.answer.specs.Answers.{row}
 use Rattle.answer.specs.Promise.{IsOverloaded, Permitted, Promised}
 use Rattle.answer.proofs.Verdicts.{everybodys_no}

@@ -15,9 +15,9 @@ pub(crate) fn choose(
     keys: &[usize; Task::MOST],
     n: usize,
 ) -> usize
-    requires n_le_most_tasks { n ≤ most_tasks }
-    requires by_index { (i : ℕ) → i < n → 0 < at owed.now i → at keys.now i < largest }
-    requires i_value { policy ≡ ListOrder → (i : ℕ) → i < n → 0 < at owed.now i → at keys.now i ≡ i }
+    requires few { n ≤ most_tasks }
+    requires keys_small { (i : ℕ) → i < n → 0 < at owed.now i → at keys.now i < largest }
+    requires keys_listed { policy ≡ ListOrder → (i : ℕ) → i < n → 0 < at owed.now i → at keys.now i ≡ i }
     ensures { Picked owed.now keys.now n result }
 {
     if let Policy::ListOrder = policy {

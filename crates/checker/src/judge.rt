@@ -46,9 +46,9 @@ fn judged(
     startup: &mut [u8],
     cycle: &mut [u8],
 ) -> Answer
-    requires n_le_most_tasks { n ≤ most_tasks }
-    requires cycle_value { first_refusal Wide (take n items) (length startup.old) (length cycle.old) ≡ sound }
-    requires measures_value { measures ≡ measures_of (take n items) }
+    requires few { n ≤ most_tasks }
+    requires no_refusal { first_refusal Wide (take n items) (length startup.old) (length cycle.old) ≡ sound }
+    requires measured { measures ≡ measures_of (take n items) }
     ensures { Permitted Wide policy (take n items) startup.old cycle.old (row result) startup.new cycle.new }
 {
     let load = measures.load;
@@ -68,10 +68,10 @@ fn scheduled(
     startup: &mut [u8],
     cycle: &mut [u8],
 ) -> Answer
-    requires n_le_most_tasks { n ≤ most_tasks }
-    requires cycle_value { first_refusal Wide (take n items) (length startup.old) (length cycle.old) ≡ sound }
-    requires measures_value { measures ≡ measures_of (take n items) }
-    requires load_le_hyperperiod { measures.load ≤ measures.hyperperiod }
+    requires few { n ≤ most_tasks }
+    requires no_refusal { first_refusal Wide (take n items) (length startup.old) (length cycle.old) ≡ sound }
+    requires measured { measures ≡ measures_of (take n items) }
+    requires fits { measures.load ≤ measures.hyperperiod }
     ensures { Permitted Wide policy (take n items) startup.old cycle.old (row result) startup.new cycle.new }
 {
     let mut run = [0usize; Task::MOST];

@@ -1,4 +1,6 @@
 // The checker: a list, its card, a policy and two lent buffers in, the answer and the tables out. Document 01, "What comes back".
+#![tactic(auto)]
+
 mod choice;
 mod judge;
 mod part;

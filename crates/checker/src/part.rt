@@ -9,8 +9,8 @@ use task::Task;
 
 // The task whose job goes first: the least key, the lower number where keys are equal; n where no job is ready.
 pub(crate) fn pick(owed: &[usize; Task::MOST], keys: &[usize; Task::MOST], n: usize) -> usize
-    requires n_le_most_tasks { n ≤ most_tasks }
-    requires by_index { (i : ℕ) → i < n → 0 < at owed.now i → at keys.now i < largest }
+    requires few { n ≤ most_tasks }
+    requires keys_small { (i : ℕ) → i < n → 0 < at owed.now i → at keys.now i < largest }
     ensures { Picked owed.now keys.now n result }
 {
     let mut best = n;
@@ -29,8 +29,8 @@ pub(crate) fn pick(owed: &[usize; Task::MOST], keys: &[usize; Task::MOST], n: us
 
 // One slot less is owed to the chosen task. It is handed back where its job is not yet done, else n.
 pub(crate) fn serve(owed: &mut [usize; Task::MOST], n: usize, chosen: usize) -> usize
-    requires n_le_most_tasks { (n ≤ most_tasks) × (most_tasks ≤ length owed.old) }
-    requires chosen_nonzero { chosen < n → 0 < at owed.old chosen }
+    requires few { (n ≤ most_tasks) × (most_tasks ≤ length owed.old) }
+    requires slots_owed { chosen < n → 0 < at owed.old chosen }
     ensures { Served n chosen owed.old owed.new result }
 {
     if n <= chosen {

@@ -21,7 +21,7 @@ pub(crate) fn arrive(
     dues: &mut [usize; Task::MOST],
     keys: &mut [usize; Task::MOST],
 ) -> usize
-    requires n_le_most_tasks { n ≤ most_tasks }
+    requires few { n ≤ most_tasks }
     requires sized { Sized owed.old next.old dues.old keys.old }
     requires fitting { Fitting n t run.now deadline.now period.now owed.old next.old }
     ensures noted { First (Late owed.old dues.old t) n result }
@@ -51,8 +51,8 @@ fn release_one(
     dues: &mut [usize; Task::MOST],
     keys: &mut [usize; Task::MOST],
 )
-    requires i_lt_most_tasks { i < most_tasks }
-    requires i_bound { at next.old i ≡ t → (at owed.old i + at run.now i < 2 ^ 64) × (t + at period.now i < 2 ^ 64) × (t + at deadline.now i < farthest) }
+    requires inside { i < most_tasks }
+    requires no_wrap { at next.old i ≡ t → (at owed.old i + at run.now i < 2 ^ 64) × (t + at period.now i < 2 ^ 64) × (t + at deadline.now i < farthest) }
     ensures { Stored policy i t run.now deadline.now period.now owed.old next.old dues.old keys.old owed.new next.new dues.new keys.new }
 {
     if next[i] != t {

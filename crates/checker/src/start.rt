@@ -19,7 +19,7 @@ pub(crate) fn spread(
     period: &mut [usize; Task::MOST],
     next: &mut [usize; Task::MOST],
 )
-    requires n_le_most_tasks { n ≤ most_tasks }
+    requires few { n ≤ most_tasks }
     requires sized { Sized run.old deadline.old period.old next.old }
     ensures { Spread items n run.new deadline.new period.new next.new }
 {

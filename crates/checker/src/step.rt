@@ -13,7 +13,7 @@ use schedule::Policy;
 use task::Task;
 
 // What goes from slot to slot beside the arrays. `missed` is the number of tasks where no task misses at `instant`.
-#[derive(Drop)]
+#[derive(Clone, Copy)]
 pub(crate) struct Now {
     pub chosen: usize,
     pub idle: usize,
@@ -38,7 +38,7 @@ pub(crate) fn step(
     w: Now,
 ) -> Now
     requires loaded { (l : List Task) × Loaded l n run.now deadline.now period.now × Instant policy l t owed.old next.old dues.old keys.old w.chosen }
-    requires t_bound { (t + 1 < plenty) × (w.idle < plenty) × (w.preemptions < plenty) × (place < length table.old) }
+    requires bounds { (t + 1 < plenty) × (w.idle < plenty) × (w.preemptions < plenty) × (place < length table.old) }
     ensures slot { (l : List Task) → Loaded l n run.now deadline.now period.now → Instant policy l t owed.old next.old dues.old keys.old w.chosen → Stepped policy l t place table.old table.new w.idle result.idle w.preemptions result.preemptions result.missed owed.new next.new dues.new keys.new result.chosen }
     ensures instant { result.instant ≡ t + 1 }
 {

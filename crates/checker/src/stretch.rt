@@ -24,7 +24,7 @@ pub(crate) fn stretch(
     chosen: usize,
 ) -> Now
     requires loaded { (l : List Task) × Loaded l n run.now deadline.now period.now × Instant policy l from owed.old next.old dues.old keys.old chosen }
-    requires count_bound { (from + count < plenty) × (count ≤ length table.old) }
+    requires room { (from + count < plenty) × (count ≤ length table.old) }
     ensures { (l : List Task) → Loaded l n run.now deadline.now period.now → Instant policy l from owed.old next.old dues.old keys.old chosen → Stretched policy l from count table.old table.new result.idle result.preemptions result.missed result.instant owed.new next.new dues.new keys.new result.chosen }
 {
     let mut w = Now {

@@ -1,10 +1,12 @@
 // Bytes copied into a lent slice, as many as there are and as fit.
+#![tactic(auto)]
+
 ghost use Rattle.std.specs.Prelude.{◌≡◌, ◌++◌, ◌+◌, ◌-◌, min, length, take, drop, replicate};
 
 // The bytes of src from `from` on, from place `at` of dst on; answers the place after them.
 pub fn fill(src: &[u8], from: usize, dst: &mut [u8], at: usize) -> usize
-    ensures value { result ≡ at + length (take (length dst.old - at) (drop from src.now)) }
-    ensures dst_after { dst.new ≡ take at dst.old ++ take (length dst.old - at) (drop from src.now) ++ drop result dst.old }
+    ensures place { result ≡ at + length (take (length dst.old - at) (drop from src.now)) }
+    ensures copied { dst.new ≡ take at dst.old ++ take (length dst.old - at) (drop from src.now) ++ drop result dst.old }
 {
     if src.len() <= from {
         return at;
@@ -13,7 +15,7 @@ pub fn fill(src: &[u8], from: usize, dst: &mut [u8], at: usize) -> usize
         return at;
     }
     let n = least(src.len() - from, dst.len() - at);
-    bytes::copy(&src[from..from + n], &mut dst[at..at + n]);
+    dst[at..at + n].copy_from_slice(&src[from..from + n]);
     at + n
 }
 

@@ -1,11 +1,13 @@
 // Bytes and numbers in decimal, laid into a lent buffer one after the other.
+#![tactic(auto)]
+
 ghost use Rattle.std.specs.Prelude.{◌≡◌, [], ◌∷◌, suc, min, ◌<◌};
 ghost use Rattle.decimal.specs.Decimal.{decimal, digit};
 ghost use Rattle.task.specs.Limits.{largest};
 ghost use Rattle.decimal.specs.Laying.{Laid};
 
 // What comes of a text and a lent buffer: the text's length, or that the buffer is shorter and nothing is written.
-#[derive(Drop)]
+#[derive(Clone, Copy)]
 pub enum Written {
     Length(usize),
     Short,

@@ -1,9 +1,11 @@
 // The greatest common divisor and the least common multiple of two numbers.
+#![tactic(auto)]
+
 ghost use Rattle.std.specs.Prelude.{◌≡◌};
 ghost use Rattle.divisor.specs.Divisors.{gcd, lcm, within};
 
 // A multiple, or that it is above a limit.
-#[derive(Drop)]
+#[derive(Clone, Copy)]
 pub enum Multiple {
     Of(usize),
     Above,

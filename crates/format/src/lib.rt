@@ -1,4 +1,6 @@
 // A plan in the log, as bytes: how many blocks it takes, and what is kept of a log after a power cut. Request #104.
+#![tactic(auto)]
+
 ghost use Rattle.std.specs.Prelude.{◌≡◌, length, take};
 ghost use Rattle.format.specs.Blocks.{blocks_for};
 ghost use Rattle.format.specs.Newest.{kept};

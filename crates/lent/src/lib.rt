@@ -1,4 +1,6 @@
 // A list that is lent by the caller and only read. Document 01, "What a task list says".
+#![tactic(auto)]
+
 ghost use Rattle.std.specs.Prelude.{◌≡◌};
 ghost use Rattle.task.specs.Arrays.{array_of};
 ghost use Rattle.answer.specs.Promise.{Promised};

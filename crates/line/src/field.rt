@@ -8,7 +8,7 @@ use crate::number::{Number, value_of};
 pub(crate) const SPACE: u8 = b' ';
 
 // A field's number and where it ends.
-#[derive(Drop)]
+#[derive(Clone, Copy)]
 pub enum Field {
     Ends(usize, usize),
     Unread,

@@ -1,4 +1,6 @@
 // A line of a text: its fields, its numbers, and the three kinds of lines. Requests #101 and #105.
+#![tactic(auto)]
+
 pub mod field;
 pub mod number;
 
@@ -13,13 +15,13 @@ use task::Task;
 // The largest number that is read.
 pub const LARGEST_NUMBER: usize = 999_999;
 
-#[derive(Drop)]
+#[derive(Clone, Copy)]
 pub enum First {
     Policy(Policy),
     Unread,
 }
 
-#[derive(Drop)]
+#[derive(Clone, Copy)]
 pub enum Line {
     Task(Task),
     Unread,

@@ -4,7 +4,7 @@ ghost use Rattle.line.specs.Lines.{number_of, value_on, within};
 
 use crate::LARGEST_NUMBER;
 
-#[derive(Drop)]
+#[derive(Clone, Copy)]
 pub enum Number {
     Of(usize),
     Not,

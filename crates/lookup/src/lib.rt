@@ -1,4 +1,6 @@
 // A slot looked up. Document 01, "What comes back".
+#![tactic(auto)]
+
 ghost use Rattle.std.specs.Prelude.{◌≡◌};
 ghost use Rattle.answer.specs.Tables.{looked};
 

@@ -1,4 +1,6 @@
 // What is printed for an input: any bytes, of any length. Requests #101 and #105.
+#![tactic(auto)]
+
 ghost use Rattle.std.specs.Prelude.{◌≡◌, List};
 ghost use Rattle.task.specs.declared.Task.{Task};
 ghost use Rattle.task.specs.Arrays.{Holds};
@@ -56,7 +58,7 @@ fn unread(line: usize, out: &mut [u8]) -> Written
 
 // Ties the lengths to the numbers of specs/.
 fn limits()
-    ensures value { STARTUP ≡ longest_startup }
-    ensures value_2 { CYCLE ≡ longest_cycle }
-    ensures longest_output_value { LONGEST_OUTPUT ≡ longest_output }
+    ensures startup { STARTUP ≡ longest_startup }
+    ensures cycle { CYCLE ≡ longest_cycle }
+    ensures output { LONGEST_OUTPUT ≡ longest_output }
 {}

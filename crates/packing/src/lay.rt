@@ -6,9 +6,9 @@ ghost use Rattle.format.specs.Blocks.{block_length, carried_length, plan_kind, p
 use format::{BLOCK, CARRIED, COUNT_AT, CYCLE_AT, PLAN, REST_AT, STARTUP_AT, TRAILER};
 
 pub(crate) fn whole(out: &mut [u8], startup: &[u8], cycle: &[u8])
-    requires startup_len_bound { length startup.now ≤ largest_length }
-    requires cycle_len_bound { length cycle.now ≤ largest_length }
-    requires out_len { length out.old ≡ block_length * blocks_for (length startup.now + length cycle.now) + block_length }
+    requires startup_small { length startup.now ≤ largest_length }
+    requires cycle_small { length cycle.now ≤ largest_length }
+    requires exact { length out.old ≡ block_length * blocks_for (length startup.now + length cycle.now) + block_length }
     ensures { out.new ≡ plan_bytes startup.now cycle.now }
 {
     let count = format::blocks_for(startup.len() + cycle.len());
@@ -49,10 +49,10 @@ fn past(a: usize, b: usize) -> usize
 }
 
 fn trailer(out: &mut [u8], count: usize, startup: usize, cycle: usize)
-    requires out_len { length out.old ≡ block_length }
-    requires count_le_largest_length { count ≤ largest_length }
-    requires startup_le_largest_length { startup ≤ largest_length }
-    requires cycle_le_largest_length { cycle ≤ largest_length }
+    requires exact { length out.old ≡ block_length }
+    requires count_small { count ≤ largest_length }
+    requires startup_small { startup ≤ largest_length }
+    requires cycle_small { cycle ≤ largest_length }
     ensures { out.new ≡ trailer count startup cycle }
 {
     out[0] = TRAILER;
@@ -64,8 +64,8 @@ fn trailer(out: &mut [u8], count: usize, startup: usize, cycle: usize)
 
 // A 16-bit number, low byte first.
 fn number(out: &mut [u8], at: usize, n: usize)
-    requires at_in_bounds { suc at < length out.old }
-    requires n_le_largest_length { n ≤ largest_length }
+    requires inside { suc at < length out.old }
+    requires small { n ≤ largest_length }
     ensures { out.new ≡ sets out.old at (two_bytes n) }
 {
     let low = (n % 256) as u8;

@@ -1,4 +1,6 @@
 // A plan and its trailer, laid into the log at a place. Request #104.
+#![tactic(auto)]
+
 mod lay;
 
 ghost use Rattle.std.specs.Prelude.{◌≡◌, ◌+◌, ◌*◌, ◌≤◌};
@@ -8,7 +10,7 @@ ghost use Rattle.packing.specs.Packing.{PackedAt};
 use format::{BLOCK, LARGEST};
 
 // How many bytes are used then, or that the plan is refused: number 23.
-#[derive(Drop)]
+#[derive(Clone, Copy)]
 pub enum Appended {
     Used(usize),
     Refused,
@@ -37,8 +39,8 @@ pub fn plan(log: &mut [u8], at: usize, startup: &[u8], cycle: &[u8]) -> Appended
 
 // How many bytes a plan takes with its trailer.
 fn length(startup: usize, cycle: usize) -> usize
-    requires startup_le_largest_length { startup ≤ largest_length }
-    requires cycle_le_largest_length { cycle ≤ largest_length }
+    requires startup_small { startup ≤ largest_length }
+    requires cycle_small { cycle ≤ largest_length }
     ensures { result ≡ block_length * blocks_for (startup + cycle) + block_length }
 {
     BLOCK * format::blocks_for(startup + cycle) + BLOCK

@@ -6,7 +6,6 @@ use lib.ListN.{get_or}
 use Rattle.refusal.specs.declared.Refusal.{Refusal}
 use Rattle.refusal.specs.declared.Refusal.TheVariants.{Count, Period, Run, Deadline, Offset, Hyperperiod, Startup, Cycle, Timer}
 use Rattle.refusal.specs.declared.Check.{Check}
-use Rattle.refusal.specs.declared.Check.TheVariants as Check
 use Rattle.refusal.specs.Refusals.{number_of, Finding, sound, refused, finding_of}
 
 -- a number says which refusal it was

@@ -1,8 +1,10 @@
 // Why a list or a buffer is refused. Document 01, "What comes back", and request #105.
+#![tactic(auto)]
+
 ghost use Rattle.std.specs.Prelude.{◌≡◌};
 ghost use Rattle.refusal.specs.Refusals.{number_of};
 
-#[derive(Drop)]
+#[derive(Clone, Copy)]
 pub enum Refusal {
     Count,
     Period,
@@ -16,7 +18,7 @@ pub enum Refusal {
 }
 
 // What a check finds: nothing, or why it refuses and which task.
-#[derive(Drop)]
+#[derive(Clone, Copy)]
 pub enum Check {
     Sound,
     Refused(Refusal, usize),

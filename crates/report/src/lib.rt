@@ -1,4 +1,6 @@
 // The printed report of an answer. Request #101.
+#![tactic(auto)]
+
 pub mod lay;
 
 ghost use Rattle.answer.specs.Answers.{row};

@@ -13,9 +13,9 @@ use Rattle.packing.specs.Packing as packing
 use Rattle.unpacking.specs.declared.Found.{Found}
 use Rattle.unpacking.specs.declared.Found.TheVariants.{Plan}
 use Rattle.unpacking.specs.Unpacking as unpacking
-use Rattle.log.specs.Log.{AppendedAs, ReadAs}
-use Rattle.log.proofs.Pinned.{append_pinned, read_pinned}
-use Rattle.log.proofs.PowerCut.{used_blocks}
+use Rattle.plan_log.specs.Log.{AppendedAs, ReadAs}
+use Rattle.plan_log.proofs.Pinned.{append_pinned, read_pinned}
+use Rattle.plan_log.proofs.PowerCut.{used_blocks}
 use Rattle.sholakpite.specs.Logs.{append_code, read_code, length_words, AnsweredAppend, NotUnderstood, Understood, AnsweredRead}
 
 -- `sholakpite_append` has one outcome

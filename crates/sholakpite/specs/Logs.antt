@@ -5,7 +5,7 @@ use Rattle.packing.specs.Packing as packing
 use Rattle.unpacking.specs.declared.Found.{Found}
 use Rattle.unpacking.specs.Unpacking as unpacking
 use Rattle.words.specs.Words.{not_understood}
-use Rattle.log.specs.Log.{AppendedAs, ReadAs}
+use Rattle.plan_log.specs.Log.{AppendedAs, ReadAs}
 
 -- how many bytes are used then, a multiple of 64, or 23
 abbrev pub append_code : packing.Reply → ℕ

@@ -1,4 +1,6 @@
 // For callers in C and Rust: the checker over words, over task structs and over texts, and the log of plans. include/sholakpite.h says the same for C.
+#![tactic(auto)]
+
 mod logs;
 mod texts;
 

@@ -13,7 +13,7 @@ const LENGTHS: usize = 2;
 pub extern "C" fn sholakpite_append(log: &mut [u8], used: u64, startup: &[u8], cycle: &[u8]) -> u64
     ensures { AnsweredAppend log.old used startup.now cycle.now result log.new }
 {
-    match log::append(log, used as usize, startup, cycle) {
+    match plan_log::append(log, used as usize, startup, cycle) {
         Appended::Used(n) => n as u64,
         Appended::Refused => 23,
     }
@@ -32,7 +32,7 @@ pub extern "C" fn sholakpite_read(
     if lengths.len() < LENGTHS {
         return NOT_UNDERSTOOD;
     }
-    match log::read(log, startup, cycle) {
+    match plan_log::read(log, startup, cycle) {
         Found::Plan(s, c) => {
             lengths[0] = s as u64;
             lengths[1] = c as u64;

@@ -8,7 +8,6 @@ use native.Mathlib.Omega.{arith}
 use lib.ListN.{length, take, set, replicate, length-append, length-take}
 use lib.Seq.{set_at, set_out, length-take-le, append_snoc, take-suc, take_at, take_all, take-length, take-append-le}
 use Rattle.task.specs.declared.Task.{Task}
-use Rattle.task.specs.declared.list.Tasks.{Tasks}
 use Rattle.task.specs.Limits.{largest, most_tasks}
 use Rattle.task.specs.Tasks.{nobody, task}
 use Rattle.task.specs.Arrays.{Holds, blank, empty, stored, added, copied, fitting, array_of}

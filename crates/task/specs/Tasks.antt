@@ -1,5 +1,5 @@
 -- What is read off a task list: its tasks, M, H and L. Document 01, "What a task list says" and "How far to look".
-use Rattle.std.specs.Prelude.{◌≡◌, List, [], ◌∷◌, ℕ, zero, suc, ◌+◌, ◌*◌, ◌/◌, ◌<◌, max, length, get_or}
+use Rattle.std.specs.Prelude.{List, [], ◌∷◌, ℕ, zero, suc, ◌+◌, ◌*◌, ◌/◌, ◌<◌, max, length, get_or}
 use Rattle.std.specs.Int.{◌∣◌}
 use Rattle.task.specs.declared.Task.{Task}
 use Rattle.divisor.specs.Divisors.{lcm}

@@ -1,4 +1,6 @@
 // What a task list says: the task kind, with its limits. Document 01, "What a task list says".
+#![tactic(auto)]
+
 pub mod list;
 
 ghost use Rattle.std.specs.Prelude.{◌≡◌};
@@ -12,7 +14,7 @@ use refusal::{Check, Refusal};
 
 // Callers in C and Rust lend tasks in this layout.
 #[repr(C)]
-#[derive(Drop)]
+#[derive(Clone, Copy)]
 pub struct Task {
     pub offset: usize,
     pub run: usize,
@@ -71,10 +73,10 @@ impl Task {
 
     // Ties the limits to the numbers of specs/: a constant that differs has no proof.
     fn limits()
-        ensures* do_value { do ⌜ (← (⟦Task::MOST⟧).entry) ≡ most_tasks ⌝ }
-        ensures* do_value_2 { do ⌜ (← (⟦Task::LONGEST_PERIOD⟧).entry) ≡ longest_period ⌝ }
-        ensures* do_value_3 { do ⌜ (← (⟦Task::LATEST_OFFSET⟧).entry) ≡ latest_offset ⌝ }
-        ensures* do_value_4 { do ⌜ (← (⟦Task::LONGEST_HYPERPERIOD⟧).entry) ≡ longest_hyperperiod ⌝ }
+        ensures most { Task.MOST ≡ most_tasks }
+        ensures period { Task.LONGEST_PERIOD ≡ longest_period }
+        ensures offset { Task.LATEST_OFFSET ≡ latest_offset }
+        ensures hyperperiod { Task.LONGEST_HYPERPERIOD ≡ longest_hyperperiod }
     {}
 }
 

@@ -5,7 +5,7 @@ ghost use Rattle.task.specs.Arrays.{blank, fitting, empty, stored, added};
 use crate::Task;
 
 // The count is the list's true length, also where that is more than the array holds.
-#[derive(Drop)]
+#[derive(Clone, Copy)]
 pub struct Tasks {
     pub items: [Task; Task::MOST],
     pub count: usize,

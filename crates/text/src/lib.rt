@@ -1,4 +1,6 @@
 // The list as text, read from bytes. Requests #101 and #105.
+#![tactic(auto)]
+
 ghost use Rattle.std.specs.Prelude.{◌≡◌, [], ◌+◌, ◌≤◌, length, drop};
 ghost use Rattle.decimal.specs.Bytes.{newline};
 ghost use Rattle.line.specs.Lines.{parts};
@@ -17,13 +19,13 @@ pub const MOST_BYTES: usize = 4096;
 const NEWLINE: u8 = b'\n';
 
 // The first line that can't be read, 0 for an input that is too long; or a list, with its card and its policy.
-#[derive(Drop)]
+#[derive(Clone, Copy)]
 pub enum Found {
     Unread(usize),
     Listed(Card, Policy),
 }
 
-#[derive(Drop)]
+#[derive(Clone, Copy)]
 pub struct Contents {
     pub found: Found,
     pub tasks: Tasks,

@@ -8,8 +8,8 @@ use format::{BLOCK, COUNT_AT, CYCLE_AT, PLAN, REST_AT, STARTUP_AT};
 // A 16-bit number from place i on, low byte first.
 pub(crate) fn number(bytes: &[u8], i: usize) -> usize
     requires { suc i < length bytes.now }
-    ensures value { result ≡ number_at bytes.now i }
-    ensures upper_bound { result ≤ largest_length }
+    ensures read { result ≡ number_at bytes.now i }
+    ensures small { result ≤ largest_length }
 {
     let low = bytes[i] as usize;
     let high = bytes[i + 1] as usize;

@@ -1,4 +1,6 @@
 // The plan before a trailer, checked and handed over. Request #104.
+#![tactic(auto)]
+
 mod check;
 
 ghost use Rattle.std.specs.Prelude.{◌≡◌, false, ◌+◌, ◌*◌, ◌≤◌, length, take, drop};
@@ -9,7 +11,7 @@ ghost use Rattle.unpacking.specs.Unpacking.{ReadOff};
 use format::{BLOCK, CARRIED, COUNT_AT, CYCLE_AT, STARTUP_AT};
 
 // The lengths of the plan's two parts; or number 20, no plan; 21, a trailer that is refused; 22, a buffer shorter than its part.
-#[derive(Drop)]
+#[derive(Clone, Copy)]
 pub enum Found {
     Plan(usize, usize),
     Nothing,
@@ -36,7 +38,7 @@ pub fn plan(log: &[u8], startup: &mut [u8], cycle: &mut [u8]) -> Found
 // The plan before a trailer, into two lent buffers, unless one is shorter than its part.
 fn hand(before: &[u8], trailer: &[u8], startup: &mut [u8], cycle: &mut [u8]) -> Found
     requires trailer_len { length trailer.now ≡ block_length }
-    requires trailer_value { is_damaged before.now trailer.now ≡ false }
+    requires not_damaged { is_damaged before.now trailer.now ≡ false }
     ensures { ReadOff startup.old cycle.old result startup.new cycle.new (plan_before before.now trailer.now) }
 {
     let count = check::number(trailer, COUNT_AT);

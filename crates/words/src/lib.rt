@@ -1,4 +1,6 @@
 // A call in words, and its answer: what the entries for C and Rust stand on.
+#![tactic(auto)]
+
 pub mod list;
 mod row;
 

@@ -1,4 +1,6 @@
 // The text of a list, written. Requests #101 and #105.
+#![tactic(auto)]
+
 mod lay;
 
 ghost use Rattle.std.specs.Prelude.{◌≡◌, List};
@@ -12,7 +14,7 @@ use task::Task;
 use task::list::Tasks;
 
 // The text's length, or a refusal: number 13.
-#[derive(Drop)]
+#[derive(Clone, Copy)]
 pub enum Saved {
     Length(usize),
     Refused,

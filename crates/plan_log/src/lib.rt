@@ -1,0 +1,23 @@
+// The log of plans on a card: a plan is appended, and the newest that is fully written is read. Request #104.
+#![tactic(auto)]
+
+ghost use Rattle.plan_log.specs.Log.{AppendedAs, ReadAs};
+
+use packing::Appended;
+use unpacking::Found;
+
+// Cuts the log back to just after its last trailer, or to nothing, and lays a plan there, unless it doesn't fit.
+pub fn append(log: &mut [u8], used: usize, startup: &[u8], cycle: &[u8]) -> Appended
+    ensures { AppendedAs log.old used startup.now cycle.now result log.new }
+{
+    let start = format::start(log, used);
+    packing::plan(log, start, startup, cycle)
+}
+
+// Hands over the newest plan that is fully written.
+pub fn read(log: &[u8], startup: &mut [u8], cycle: &mut [u8]) -> Found
+    ensures { ReadAs log.now startup.old cycle.old result startup.new cycle.new }
+{
+    let end = format::kept(log);
+    unpacking::plan(&log[..end], startup, cycle)
+}
