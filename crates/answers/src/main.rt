@@ -1,10 +1,13 @@
 // Answers a stream of inputs, for comparing many with another program. A frame is two bytes, the input's length, low byte
 // first, and room for the input. An answer is the output and the text of the list that was read, written again, or nothing;
 // each is four bytes, its length, low byte first, and its bytes.
+#![tactic(auto)]
+
 ghost use Rattle.std.specs.Prelude.{◌<◌};
 
 use decimal::Written;
-use libc::{STDIN_FILENO, STDOUT_FILENO};
+use std::io;
+use std::io::{ErrorKind, Read};
 use text::Found;
 use writer::Saved;
 
@@ -23,62 +26,80 @@ fn low(n: usize) -> u8 {
     (n % 256) as u8
 }
 
-fn send(bytes: &[u8]) -> bool {
+fn send(rt: &impl Print, bytes: &[u8]) -> io::Result<()> {
     let n = bytes.len();
     let head = [low(n), low(n / 256), low(n / 65536), 0];
-    io::write_all(STDOUT_FILENO, &head);
-    io::write_all(STDOUT_FILENO, bytes)
+    rt.write_all(&head)?;
+    rt.write_all(bytes)
 }
 
-fn say(input: &[u8]) -> bool {
+fn say(rt: &impl Print, input: &[u8]) -> io::Result<bool> {
     let mut out = [0u8; output::LONGEST_OUTPUT];
     let Written::Length(n) = output::answer(input, &mut out) else {
-        return false;
+        return Ok(false);
     };
-    send(&out[..n])
+    send(rt, &out[..n])?;
+    Ok(true)
 }
 
 // No text is longer than an input may be (`text_length`).
-fn write_again(input: &[u8]) -> bool {
+fn write_again(rt: &impl Print, input: &[u8]) -> io::Result<bool> {
     let read = text::read(input);
     let tasks = read.tasks;
     let found = read.found;
     let Found::Listed(card, policy) = found else {
-        return send(b"");
+        send(rt, b"")?;
+        return Ok(true);
     };
     let mut out = [0u8; text::MOST_BYTES];
     let Saved::Length(n) = writer::write(tasks, card, policy, &mut out) else {
-        return send(b"");
+        send(rt, b"")?;
+        return Ok(true);
     };
     if out.len() < n {
-        return false;
+        return Ok(false);
     }
-    send(&out[..n])
+    send(rt, &out[..n])?;
+    Ok(true)
+}
+
+// Whether there is a whole frame left, which is then read.
+fn next(stdin: &mut impl Read, frame: &mut [u8]) -> io::Result<bool> {
+    match stdin.read_exact(frame) {
+        Ok(()) => Ok(true),
+        Err(error) => {
+            if error.kind() == ErrorKind::UnexpectedEof {
+                Ok(false)
+            } else {
+                Err(error)
+            }
+        }
+    }
 }
 
 // Answers one frame, if there is a whole one.
-fn one() -> bool {
+fn one(rt: &impl Print, stdin: &mut impl Read) -> io::Result<bool> {
     let mut frame = [0u8; FRAME];
-    if io::read_full(STDIN_FILENO, &mut frame) < FRAME {
-        return false;
+    if !next(stdin, &mut frame)? {
+        return Ok(false);
     }
     let end = wide(frame[0]) + 256 * wide(frame[1]) + 2;
     if FRAME < end {
-        return false;
+        return Ok(false);
     }
-    if !say(&frame[2..end]) {
-        return false;
+    if !say(rt, &frame[2..end])? {
+        return Ok(false);
     }
-    write_again(&frame[2..end])
+    write_again(rt, &frame[2..end])
 }
 
 // The count lets the loop be proved to end; no run uses it up.
-fn main() {
-    let mut left = u64::MAX;
-    while 0 < left {
-        if !one() {
-            return;
+fn main(rt: HostRuntime) -> io::Result<()> {
+    let mut stdin = rt.stdin();
+    for _ in 0..u64::MAX {
+        if !one(&rt, &mut stdin)? {
+            return Ok(());
         }
-        left -= 1;
     }
+    Ok(())
 }

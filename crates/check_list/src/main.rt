@@ -1,31 +1,51 @@
 // Reads a list from standard input and prints the answer. Request #101.
+#![tactic(auto)]
+
+ghost use Rattle.std.specs.Prelude.{◌≤◌, length, IfOk};
+
 use decimal::Written;
-use libc::{STDIN_FILENO, STDOUT_FILENO};
+use std::io;
+use std::io::{Error, Read};
 
 // One byte more than is read is enough to know that an input is too long.
 const ENOUGH: usize = text::MOST_BYTES + 1;
 
-// Whether the input ends here. After a read that failed there may be more, and half a list is not to be answered.
-fn at_end() -> bool {
-    libc::read(STDIN_FILENO, &mut [0u8; 1]) == 0
+// Reads until `input` is full or standard input ends, and answers how many bytes it has.
+fn read_full(stdin: &mut impl Read, input: &mut [u8]) -> io::Result<usize>
+    ensures { IfOk result (λ n. n ≤ length input.new) }
+{
+    let mut n = 0;
+    while n < input.len() {
+        let more = stdin.read(&mut input[n..])?;
+        if more == 0 {
+            break;
+        }
+        n += more;
+    }
+    Ok(n)
+}
+
+// Whether the input ends here. At a terminal there may be more after an end, and half a list is not to be answered.
+fn at_end(stdin: &mut impl Read) -> io::Result<bool> {
+    let more = stdin.read(&mut [0u8; 1])?;
+    Ok(more == 0)
 }
 
 // The buffer has room for every output, so that none is short (`printed_whole`).
-fn say(input: &[u8]) {
+fn say(rt: &impl Print, input: &[u8]) -> io::Result<()> {
     let mut out = [0u8; output::LONGEST_OUTPUT];
     if let Written::Length(n) = output::answer(input, &mut out) {
-        if !io::write_all(STDOUT_FILENO, &out[..n]) {
-            os::fail(b"standard output");
-        }
+        rt.write_all(&out[..n])?;
     }
+    Ok(())
 }
 
-fn main() {
+fn main(rt: HostRuntime) -> io::Result<()> {
+    let mut stdin = rt.stdin();
     let mut input = [0u8; ENOUGH];
-    let n = io::read_full(STDIN_FILENO, &mut input);
-    if n < ENOUGH && !at_end() {
-        os::fail(b"standard input");
-        return;
+    let n = read_full(&mut stdin, &mut input)?;
+    if n < ENOUGH && !at_end(&mut stdin)? {
+        return Err(Error::other("standard input goes on after its end"));
     }
-    say(&input[..n]);
+    say(&rt, &input[..n])
 }

@@ -1,9 +1,11 @@
 // Plans appended to a log, the power cut after every byte of the newest, and what is left read back and appended to; then each byte
 // of small logs changed in turn. `stdout` was worked out by hand from the request.
+#![tactic(auto)]
+
 mod tally;
 
-use libc::STDOUT_FILENO;
 use packing::Appended;
+use std::io;
 use tally::{Tally, named};
 use task::Task;
 
@@ -40,60 +42,73 @@ fn cut(log: &[u8], begun: usize, startup: &[u8], cycle: &[u8]) -> Tally {
     tally.with(tally::look(log, startup, cycle, &mut s, &mut c))
 }
 
-fn in_log(log: &mut [u8], begun: usize, startup: &[u8], cycle: &[u8]) {
-    let whole = used(log::append(log, begun, startup, cycle));
+fn in_log(
+    rt: &impl Print,
+    log: &mut [u8],
+    begun: usize,
+    startup: &[u8],
+    cycle: &[u8],
+) -> io::Result<()> {
+    let whole = used(plan_log::append(log, begun, startup, cycle));
     if log.len() < whole {
-        return;
+        return Ok(());
     }
-    cut(&log[..whole], begun, startup, cycle).print();
+    cut(&log[..whole], begun, startup, cycle).print(rt)
 }
 
 // After each cut another plan is appended and read, and then the first again.
-fn again(log: &mut [u8], begun: usize, startup: &[u8], cycle: &[u8]) {
+fn again(
+    rt: &impl Print,
+    log: &mut [u8],
+    begun: usize,
+    startup: &[u8],
+    cycle: &[u8],
+) -> io::Result<()> {
     let mut s = [0u8; 64];
     let mut c = [0u8; 64];
-    let whole = used(log::append(log, begun, startup, cycle));
+    let whole = used(plan_log::append(log, begun, startup, cycle));
     let mut tally = Tally::none();
     for j in begun..whole {
-        let n = used(log::append(log, j, b"an", b"other"));
+        let n = used(plan_log::append(log, j, b"an", b"other"));
         if log.len() < n {
-            return;
+            return Ok(());
         }
         tally = tally.with(tally::look(&log[..n], b"an", b"other", &mut s, &mut c));
-        log::append(log, begun, startup, cycle);
+        plan_log::append(log, begun, startup, cycle);
     }
-    io::write_all(STDOUT_FILENO, b"  another appended after each");
-    tally.print();
+    rt.write_all(b"  another appended after each")?;
+    tally.print(rt)
 }
 
 // A plan in an empty log, and after another plan.
-fn both(log: &mut [u8], startup: &[u8], cycle: &[u8]) {
-    named(b"startup ", startup.len());
-    named(b", cycle ", cycle.len());
-    io::write_all(STDOUT_FILENO, b"\n  cut in an empty log");
-    in_log(log, 0, startup, cycle);
-    let begun = used(log::append(log, 0, b"be", b"fore"));
-    io::write_all(STDOUT_FILENO, b"  cut after a plan");
-    in_log(log, begun, startup, cycle);
+fn both(rt: &impl Print, log: &mut [u8], startup: &[u8], cycle: &[u8]) -> io::Result<()> {
+    named(rt, b"startup ", startup.len())?;
+    named(rt, b", cycle ", cycle.len())?;
+    rt.write_all(b"\n  cut in an empty log")?;
+    in_log(rt, log, 0, startup, cycle)?;
+    let begun = used(plan_log::append(log, 0, b"be", b"fore"));
+    rt.write_all(b"  cut after a plan")?;
+    in_log(rt, log, begun, startup, cycle)?;
     // Each of these lays the whole plan anew, so the longest is left out.
     if startup.len() < 64 {
-        again(log, begun, startup, cycle);
+        again(rt, log, begun, startup, cycle)?;
     }
+    Ok(())
 }
 
-fn plan(s: usize, c: usize) {
+fn plan(rt: &impl Print, s: usize, c: usize) -> io::Result<()> {
     let mut startup = [0u8; STARTUP];
     let mut cycle = [0u8; CYCLE];
     let mut log = [0u8; ROOM];
     number_all(&mut startup, 1);
     number_all(&mut cycle, 101);
     if STARTUP < s {
-        return;
+        return Ok(());
     }
     if CYCLE < c {
-        return;
+        return Ok(());
     }
-    both(&mut log, &startup[..s], &cycle[..c]);
+    both(rt, &mut log, &startup[..s], &cycle[..c])
 }
 
 fn next(b: u8) -> u8 {
@@ -101,7 +116,7 @@ fn next(b: u8) -> u8 {
 }
 
 // Each byte one more, and then as it was.
-fn damage(log: &mut [u8], startup: &[u8], cycle: &[u8]) {
+fn damage(rt: &impl Print, log: &mut [u8], startup: &[u8], cycle: &[u8]) -> io::Result<()> {
     let mut s = [0u8; 64];
     let mut c = [0u8; 64];
     let mut tally = Tally::none();
@@ -111,28 +126,28 @@ fn damage(log: &mut [u8], startup: &[u8], cycle: &[u8]) {
         tally = tally.with(tally::look(log, startup, cycle, &mut s, &mut c));
         log[i] = kept;
     }
-    tally.print();
+    tally.print(rt)
 }
 
 // A plan of six entries takes 128 bytes.
-fn damaged() {
+fn damaged(rt: &impl Print) -> io::Result<()> {
     let mut one = [0u8; 128];
-    log::append(&mut one, 0, b"new", b"est");
-    io::write_all(STDOUT_FILENO, b"one plan, each byte changed");
-    damage(&mut one, b"new", b"est");
+    plan_log::append(&mut one, 0, b"new", b"est");
+    rt.write_all(b"one plan, each byte changed")?;
+    damage(rt, &mut one, b"new", b"est")?;
     let mut two = [0u8; 256];
-    log::append(&mut two, 0, b"be", b"fore");
-    log::append(&mut two, 128, b"new", b"est");
-    io::write_all(STDOUT_FILENO, b"two plans, each byte changed");
-    damage(&mut two, b"new", b"est");
+    plan_log::append(&mut two, 0, b"be", b"fore");
+    plan_log::append(&mut two, 128, b"new", b"est");
+    rt.write_all(b"two plans, each byte changed")?;
+    damage(rt, &mut two, b"new", b"est")
 }
 
-fn main() {
-    plan(0, 0);
-    plan(1, 0);
-    plan(40, 22);
-    plan(41, 22);
-    plan(42, 22);
-    plan(STARTUP, CYCLE);
-    damaged();
+fn main(rt: HostRuntime) -> io::Result<()> {
+    plan(&rt, 0, 0)?;
+    plan(&rt, 1, 0)?;
+    plan(&rt, 40, 22)?;
+    plan(&rt, 41, 22)?;
+    plan(&rt, 42, 22)?;
+    plan(&rt, STARTUP, CYCLE)?;
+    damaged(&rt)
 }

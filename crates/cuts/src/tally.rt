@@ -1,8 +1,8 @@
 // What reading a log gives, and how often.
-use libc::STDOUT_FILENO;
+use std::io;
 use unpacking::Found;
 
-#[derive(Drop)]
+#[derive(Clone, Copy)]
 pub(crate) enum Seen {
     Nothing,
     Damaged,
@@ -12,7 +12,7 @@ pub(crate) enum Seen {
     Other,
 }
 
-#[derive(Drop)]
+#[derive(Clone, Copy)]
 pub(crate) struct Tally {
     nothing: usize,
     damaged: usize,
@@ -27,9 +27,9 @@ fn more(n: usize) -> usize {
     if n < usize::MAX { n + 1 } else { n }
 }
 
-pub(crate) fn named(name: &[u8], n: usize) {
-    io::write_all(STDOUT_FILENO, name);
-    io::print_decimal(STDOUT_FILENO, n as u64);
+pub(crate) fn named(rt: &impl Print, name: &[u8], n: usize) -> io::Result<()> {
+    rt.write_all(name)?;
+    rt.print(n)
 }
 
 impl Tally {
@@ -56,14 +56,14 @@ impl Tally {
         self
     }
 
-    pub(crate) fn print(self) {
-        named(b": no plan ", self.nothing);
-        named(b", damaged ", self.damaged);
-        named(b", short ", self.short);
-        named(b", the plan before ", self.before);
-        named(b", the newest ", self.newest);
-        named(b", another ", self.other);
-        io::write_all(STDOUT_FILENO, b"\n");
+    pub(crate) fn print(self, rt: &impl Print) -> io::Result<()> {
+        named(rt, b": no plan ", self.nothing)?;
+        named(rt, b", damaged ", self.damaged)?;
+        named(rt, b", short ", self.short)?;
+        named(rt, b", the plan before ", self.before)?;
+        named(rt, b", the newest ", self.newest)?;
+        named(rt, b", another ", self.other)?;
+        rt.write_all(b"\n")
     }
 }
 
@@ -108,7 +108,7 @@ fn spoil(buffer: &mut [u8]) {
 pub(crate) fn look(log: &[u8], startup: &[u8], cycle: &[u8], s: &mut [u8], c: &mut [u8]) -> Seen {
     spoil(s);
     spoil(c);
-    match log::read(log, s, c) {
+    match plan_log::read(log, s, c) {
         Found::Nothing => Seen::Nothing,
         Found::Damaged => Seen::Damaged,
         Found::Short => Seen::Short,

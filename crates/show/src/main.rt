@@ -1,92 +1,94 @@
 // Checks a built-in list, list b of document 01, and prints the answer with its tables, and the slot of a late instant.
 // `stdout` was read off the paper; 1,000,001 is five startup slots, 249,999 cycles of four, and no more.
+#![tactic(auto)]
+
 use answer::{Answer, IDLE, Plan};
 use card::Card;
-use libc::STDOUT_FILENO;
 use schedule::Policy;
+use std::io;
 use task::Task;
 use task::list::Tasks;
 
-fn word(text: &[u8]) {
-    io::write_all(STDOUT_FILENO, text);
+fn word(rt: &impl Print, text: &str) -> io::Result<()> {
+    rt.print(text)
 }
 
-fn named(name: &[u8], x: usize) {
-    word(name);
-    word(b" ");
-    io::print_decimal(STDOUT_FILENO, x as u64);
+fn named(rt: &impl Print, name: &str, x: usize) -> io::Result<()> {
+    print!(rt; "{name} {x}")
 }
 
-fn pair(name: &[u8], a: usize, b: usize) {
-    named(name, a);
-    named(b"", b);
-    word(b"\n");
+fn pair(rt: &impl Print, name: &str, a: usize, b: usize) -> io::Result<()> {
+    named(rt, name, a)?;
+    named(rt, "", b)?;
+    word(rt, "\n")
 }
 
-fn counts(plan: Plan) {
-    named(b"feasible M", plan.latest);
-    named(b" H", plan.hyperperiod);
-    named(b" L", plan.load);
-    word(b"\n");
+fn counts(rt: &impl Print, plan: Plan) -> io::Result<()> {
+    named(rt, "feasible M", plan.latest)?;
+    named(rt, " H", plan.hyperperiod)?;
+    named(rt, " L", plan.load)?;
+    word(rt, "\n")
 }
 
-fn say(said: Answer) {
+fn say(rt: &impl Print, said: Answer) -> io::Result<()> {
     match said {
-        Answer::Refused(why, task) => pair(b"refused", why.number(), task),
-        Answer::Overloaded { load, hyperperiod } => pair(b"overloaded", load, hyperperiod),
-        Answer::Missed { task, at } => pair(b"missed", task, at),
-        Answer::Feasible(plan) => counts(plan),
+        Answer::Refused(why, task) => pair(rt, "refused", why.number(), task),
+        Answer::Overloaded { load, hyperperiod } => pair(rt, "overloaded", load, hyperperiod),
+        Answer::Missed { task, at } => pair(rt, "missed", task, at),
+        Answer::Feasible(plan) => counts(rt, plan),
     }
 }
 
-fn entry(b: u8) {
+fn entry(rt: &impl Print, b: u8) -> io::Result<()> {
     if b == IDLE {
-        word(b" -");
+        word(rt, " -")
     } else {
-        named(b"", b as usize);
+        named(rt, "", b as usize)
     }
 }
 
-fn table(name: &[u8], entries: &[u8]) {
-    word(name);
+fn table(rt: &impl Print, name: &str, entries: &[u8]) -> io::Result<()> {
+    word(rt, name)?;
     for i in 0..entries.len() {
-        entry(entries[i]);
+        entry(rt, entries[i])?;
     }
-    word(b"\n");
+    word(rt, "\n")
 }
 
 // Only a feasible answer has counts.
-fn rest(said: Answer) {
+fn rest(rt: &impl Print, said: Answer) -> io::Result<()> {
     if let Answer::Feasible(plan) = said {
-        pair(b"idle", plan.startup_idle, plan.cycle_idle);
+        pair(rt, "idle", plan.startup_idle, plan.cycle_idle)?;
         pair(
-            b"preemptions",
+            rt,
+            "preemptions",
             plan.startup_preemptions,
             plan.cycle_preemptions,
-        );
+        )?;
     }
+    Ok(())
 }
 
 // The slot of any instant, looked up in the tables.
-fn slot<'a>(startup: &'a [u8], cycle: &'a [u8], t: usize) {
-    named(b"slot", t);
+fn slot(rt: &impl Print, startup: &[u8], cycle: &[u8], t: usize) -> io::Result<()> {
+    named(rt, "slot", t)?;
     let part = lookup::lookup(startup, cycle, t);
     if 0 < part.len() {
-        entry(part[0]);
+        entry(rt, part[0])?;
     }
-    word(b"\n");
+    word(rt, "\n")
 }
 
-fn main() {
+fn main(rt: HostRuntime) -> io::Result<()> {
     let list = Tasks::none()
         .with(Task::new(0, 2, 4, 4))
         .with(Task::new(1, 1, 2, 4));
     let mut startup = [IDLE; 5];
     let mut cycle = [IDLE; 4];
     let said = checker::check(list, Card::Wide, Policy::Edf, &mut startup, &mut cycle);
-    say(said);
-    table(b"startup", &startup);
-    table(b"cycle", &cycle);
-    rest(said);
-    slot(&startup, &cycle, 1_000_001);
+    say(&rt, said)?;
+    table(&rt, "startup", &startup)?;
+    table(&rt, "cycle", &cycle)?;
+    rest(&rt, said)?;
+    slot(&rt, &startup, &cycle, 1_000_001)
 }
