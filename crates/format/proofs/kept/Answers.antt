@@ -3,19 +3,11 @@ use mathlib.Core.Path.{◌≡◌, refl, sym, ◌∙◌, ap}
 use Prim.Native.Nat.{ℕ, ◌*◌}
 use native.Mathlib.Omega.{arith}
 use Rattle.format.specs.Newest.{blocks_kept}
-use Rattle.format.proofs.CutBack.{kept_trailer, kept_other, kept_length}
+use Rattle.format.proofs.CutBack.{kept_other, kept_length}
 use Rattle.format.proofs.kept.Goals as goal
 
 pub loop-n-init : goal.loop-n-init
 loop-n-init c = (omega arith, refl)
-
-pub returns-then-log-n-eq-TRAILER : goal.returns-then-log-n-eq-TRAILER
-returns-then-log-n-eq-TRAILER c =
-    let x = c.args in
-    let n = c.loop-n.n in
-    sym
-    (kept_length x.log.now
-    ∙ ap (λ (k : ℕ). 64 * k) (sym c.loop-n.invariant.1 ∙ kept_trailer x.log.now n c.loop-n-test.true c.if-log-n-eq-TRAILER.true))
 
 pub loop-n-preserved : goal.loop-n-preserved
 loop-n-preserved c =

@@ -1,12 +1,7 @@
 -- `plan` meets its contract: each refusal, and the plan laid at its place.
 use native.Mathlib.Omega.{arith}
-use Rattle.packing.proofs.Placing.{refused_startup, refused_cycle, refused_past, refused_room, placed}
+use Rattle.packing.proofs.Placing.{refused_cycle, refused_past, refused_room, placed}
 use Rattle.packing.proofs.plan.Goals as goal
-
-pub returns-then-startup-gt-LARGEST : goal.returns-then-startup-gt-LARGEST
-returns-then-startup-gt-LARGEST c =
-    let x = c.args in
-    refused_startup x.log.now x.at x.startup.now x.cycle.now (omega arith)
 
 pub returns-then-cycle-gt-LARGEST : goal.returns-then-cycle-gt-LARGEST
 returns-then-cycle-gt-LARGEST c =

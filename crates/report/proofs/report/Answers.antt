@@ -1,11 +1,7 @@
 -- `report` meets its contract: measured first, then laid.
 use native.Mathlib.Omega.{arith}
-use Rattle.decimal.proofs.Laying.{wrote_short, wrote_whole}
+use Rattle.decimal.proofs.Laying.{wrote_whole}
 use Rattle.report.proofs.report.Goals as goal
-
-pub returns-then-out-n : goal.returns-then-out-n
-returns-then-out-n c =
-    wrote_short c.args.out.now (omega (arith, c.well_formed)) c.report-n.ensures c.if-out-n.true
 
 pub returns : goal.returns
 returns c =

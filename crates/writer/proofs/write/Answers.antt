@@ -1,13 +1,8 @@
 -- `write` meets its contract: each refusal, and the text measured before it is laid.
 use mathlib.Core.Path.{sym, ◌∙◌}
 use native.Mathlib.Omega.{arith}
-use Rattle.writer.proofs.Saving.{saved_many, saved_large, saved_short, saved_whole}
+use Rattle.writer.proofs.Saving.{saved_large, saved_short, saved_whole}
 use Rattle.writer.proofs.write.Goals as goal
-
-pub returns-then-count-gt-MOST : goal.returns-then-count-gt-MOST
-returns-then-count-gt-MOST c =
-    let x = c.args in
-    λ l holds. saved_many x.card x.policy x.list l holds x.out.now c.if-count-gt-MOST.true
 
 pub returns-then-any_large : goal.returns-then-any_large
 returns-then-any_large c =

@@ -37,13 +37,13 @@ returns-then-v-gt-LARGEST_NUMBER c =
     let b = get_or x.field.now l.i 0 in
     sym
     (ap within (l.invariant.2 ∙ one_digit l.v x.field.now l.i (search rules) c.if-b-lt48.false c.if-b-gt57.false)
-    ∙ above_stays (l.v * 10 + (b - 48)) (drop (l.i + 1) x.field.now) c.if-v-gt-LARGEST_NUMBER.true)
+    ∙ above_stays (l.v * 10 + (b - 48)) (drop (l.i + 1) x.field.now) (omega arith))
 
 pub loop-i-preserved : goal.loop-i-preserved
 loop-i-preserved c =
     let l = c.loop-i in
     let x = c.args in
-    (omega arith, c.if-v-gt-LARGEST_NUMBER.false, l.invariant.2 ∙ one_digit l.v x.field.now l.i (search rules) c.if-b-lt48.false c.if-b-gt57.false)
+    (omega arith, omega arith, l.invariant.2 ∙ one_digit l.v x.field.now l.i (search rules) c.if-b-lt48.false c.if-b-gt57.false)
 
 pub returns : goal.returns
 returns c =

@@ -1,14 +1,10 @@
 -- `slot` meets its contract: a space, and a dash or the number.
 use native.Mathlib.Omega.{arith}
-use borrow.Author.Tests.{eq-eqb, ne_eqb}
+use borrow.Author.Tests.{ne_eqb}
 use Rattle.schedule.specs.Job.{idle}
 use Rattle.answer.specs.Tables.{byte_of}
 use Rattle.decimal.proofs.Laying.{laid_both}
 use Rattle.report.proofs.lay.slot.Goals as goal
-
-pub returns-then-b-eq-IDLE : goal.returns-then-b-eq-IDLE
-returns-then-b-eq-IDLE c =
-    rw (eq-eqb c.args.b (byte_of idle) c.if-b-eq-IDLE.true) (laid_both (omega (arith, c.well_formed)) c.byte-next.ensures c.byte.ensures)
 
 pub returns : goal.returns
 returns c =

@@ -1,15 +1,8 @@
 -- `damaged` meets its contract: each return is one of the tests, in the request's order.
 use mathlib.Core.Path.{sym, ◌∙◌, ap}
 use mathlib.Core.Bool.{not}
-use Rattle.unpacking.proofs.Damaged.{by_count, by_start, by_kind, by_pad, by_rest}
+use Rattle.unpacking.proofs.Damaged.{by_start, by_kind, by_pad, by_rest}
 use Rattle.unpacking.proofs.check.damaged.Goals as goal
-
-pub returns-then-count-blocks_for : goal.returns-then-count-blocks_for
-returns-then-count-blocks_for c =
-    let x = c.args in
-    by_count x.before.now x.trailer.now c.number-count.result c.number.result c.number-2.result
-    c.number-count.ensures.read c.number.ensures.read c.number-2.ensures.read
-    (λ e. c.if-count-blocks_for.true (e ∙ sym c.blocks_for.ensures))
 
 pub returns-then-before-count : goal.returns-then-before-count
 returns-then-before-count c =

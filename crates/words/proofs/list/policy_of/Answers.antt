@@ -5,4 +5,4 @@ use Rattle.words.proofs.Reading.{policy_edf}
 use Rattle.words.proofs.list.policy_of.Goals as goal
 
 pub returns-in_default : goal.returns-in_default
-returns-in_default c = sym (policy_edf c.args.number (omega (arith, c.in_default.in_default-own)))
+returns-in_default c = sym (policy_edf c.args.number (omega arith))
