@@ -2,8 +2,9 @@
 use mathlib.Core.Path.{◌≡◌, sym, ◌∙◌, ap}
 use mathlib.Core.Bool.{true}
 use mathlib.Core.List.{List}
-use Prim.Native.Nat.{ℕ}
-use lib.ListN.{take}
+use Prim.Native.Nat.{ℕ, ◌≤◌, ◌<◌}
+use native.Mathlib.Omega.{arith}
+use lib.ListN.{length, take}
 use Rattle.decimal.specs.Bytes.{bytes, space}
 use Rattle.line.specs.declared.field.Field.{Field}
 use Rattle.line.specs.declared.field.Field.TheVariants.{Ends}
@@ -73,7 +74,8 @@ returns-then-d-line c =
     let task = sym c.same.ensures ∙ c.if-not-same.false in
     let q = period-read line _ c.before-word.ensures task _ c.number_after.ensures _ _ c.in-Ends.is _ c.number_after-2.ensures _ _ c.in-Ends-number_after.is
     _ c.number_after-3.ensures _ _ c.in-Ends-number_after-2.is _ c.number_after-4.ensures _ _ c.in-Ends-number_after-3.is in
-    sym (q ∙ last_more _ _ _ c.if-d-line.true)
+    let more : c.in-Ends-number_after-3.d < length line = omega arith in
+    sym (q ∙ last_more _ _ _ more)
 
 pub returns : goal.returns
 returns c =
@@ -81,4 +83,5 @@ returns c =
     let task = sym c.same.ensures ∙ c.if-not-same.false in
     let q = period-read line _ c.before-word.ensures task _ c.number_after.ensures _ _ c.in-Ends.is _ c.number_after-2.ensures _ _ c.in-Ends-number_after.is
     _ c.number_after-3.ensures _ _ c.in-Ends-number_after-2.is _ c.number_after-4.ensures _ _ c.in-Ends-number_after-3.is in
-    ap taskLine c.new.ensures ∙ sym (q ∙ last_none _ _ _ c.if-d-line.false)
+    let no_more : length line ≤ c.in-Ends-number_after-3.d = omega arith in
+    ap taskLine c.new.ensures ∙ sym (q ∙ last_none _ _ _ no_more)
