@@ -6,9 +6,9 @@ use native.Mathlib.Nat.{div-mul_cancel, mul-div_cancel'}
 use native.Mathlib.Nat.{dvd_refl, dvd-zero, dvd-mul_left, dvd-mul_right, dvd-mul_right_of_dvd, dvd-mod_iff, dvd-add_iff_right}
 use native.Mathlib.Nat.{pos_of_dvd_of_pos, mul-dvd-mul_left, mul-dvd-mul_right, dvd_of_mul-dvd-mul_right}
 use native.Mathlib.Decide.{dec_lt}
+use Rattle.std.specs.Prelude.{Some, None}
 use native.Mathlib.Omega.{arith}
 use borrow.Author.Tests.{le-leb, lt-leb}
-use Rattle.divisor.specs.declared.Multiple.TheVariants.{Of, Above}
 use Rattle.divisor.specs.Divisors.{IsGcd, IsLcm, gcd_in, gcd, lcm, within}
 
 -- more steps than the second number change nothing
@@ -107,23 +107,23 @@ pub lcm_some : (a b : ℕ) → 0 < a → 0 < b → 0 < lcm a b
 lcm_some a b p q = pos_of_dvd_of_pos ((lcm_is a b).least (a * b) (dvd-mul_right a b) (dvd-mul_left b a)) (mul-pos p q)
 
 -- the two answers of a multiple with a limit
-pub within_of : {most m : ℕ} → m ≤ most → within most m ≡ Of m
-within_of {most} {m} h = rw (le-leb m most h)
+pub within_some : {most m : ℕ} → m ≤ most → within most m ≡ Some m
+within_some {most} {m} h = rw (le-leb m most h)
 
-pub within_above : {most m : ℕ} → most < m → within most m ≡ Above
-within_above {most} {m} h = rw (lt-leb m most h)
+pub within_none : {most m : ℕ} → most < m → within most m ≡ None
+within_none {most} {m} h = rw (lt-leb m most h)
 
 -- and what each says
-pub is_of : (most m r : ℕ) → within most m ≡ Of r → (m ≤ most) × (r ≡ m)
-is_of most m r e = go (dec_lt most m)
+pub is_some : (most m r : ℕ) → within most m ≡ Some r → (m ≤ most) × (r ≡ m)
+is_some most m r e = go (dec_lt most m)
   where
     go : Dec (most < m) → (m ≤ most) × (r ≡ m)
-    go (yes h) = let z : ◌≡◌ {A = ℕ} 0 1 = cc (within_above h) in absurd (omega arith)
-    go (no h) = (omega arith, cc (within_of {most = most} {m = m} (omega arith)))
+    go (yes h) = let z : ◌≡◌ {A = ℕ} 0 1 = cc (within_none h) in absurd (omega arith)
+    go (no h) = (omega arith, cc (within_some {most = most} {m = m} (omega arith)))
 
-pub is_above : (most m : ℕ) → within most m ≡ Above → most < m
-is_above most m e = go (dec_lt most m)
+pub is_none : (most m : ℕ) → within most m ≡ None → most < m
+is_none most m e = go (dec_lt most m)
   where
     go : Dec (most < m) → most < m
     go (yes h) = h
-    go (no h) = let z : ◌≡◌ {A = ℕ} 0 1 = cc (within_of {most = most} {m = m} (omega arith)) in absurd (omega arith)
+    go (no h) = let z : ◌≡◌ {A = ℕ} 0 1 = cc (within_some {most = most} {m = m} (omega arith)) in absurd (omega arith)

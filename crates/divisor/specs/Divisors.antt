@@ -1,8 +1,6 @@
 -- The greatest common divisor and the least common multiple. Document 01, "What a task list says".
-use Rattle.std.specs.Prelude.{Bool, true, false, ℕ, zero, suc, ◌*◌, ◌/◌, ◌%◌, leb}
+use Rattle.std.specs.Prelude.{cond, ℕ, zero, suc, ◌*◌, ◌/◌, ◌%◌, leb, Option, Some, None}
 use Rattle.std.specs.Int.{◌∣◌}
-use Rattle.divisor.specs.declared.Multiple.{Multiple}
-use Rattle.divisor.specs.declared.Multiple.TheVariants.{Of, Above}
 
 -- g divides a and b, and whatever divides both divides g
 pub record IsGcd (a b g : ℕ) : Type 0 where
@@ -30,10 +28,6 @@ gcd a b = gcd_in b a b
 abbrev pub lcm : ℕ → ℕ → ℕ
 lcm a b = a / gcd a b * b
 
-abbrev pub of_or_above : Bool → ℕ → Multiple
-of_or_above true m = Of m
-of_or_above false m = Above
-
--- a multiple where it is no more than most, else that it is above
-abbrev pub within : ℕ → ℕ → Multiple
-within most m = of_or_above (leb m most) m
+-- a multiple where it is no more than most, else that there is none
+abbrev pub within : ℕ → ℕ → Option ℕ
+within most m = cond (leb m most) (Some m) None

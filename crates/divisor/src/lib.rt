@@ -4,13 +4,6 @@
 ghost use Rattle.std.specs.Prelude.{◌≡◌};
 ghost use Rattle.divisor.specs.Divisors.{gcd, lcm, within};
 
-// A multiple, or that it is above a limit.
-#[derive(Clone, Copy)]
-pub enum Multiple {
-    Of(usize),
-    Above,
-}
-
 // Each division leaves a smaller remainder.
 pub fn gcd(a: usize, b: usize) -> usize
     ensures { result ≡ gcd a b }
@@ -18,16 +11,16 @@ pub fn gcd(a: usize, b: usize) -> usize
     if b == 0 { a } else { gcd(b, a % b) }
 }
 
-// The least common multiple where it is at most `most`. The limit is divided, so that no product wraps.
-pub fn lcm(a: usize, b: usize, most: usize) -> Multiple
+// The least common multiple, where it is at most `most`. The limit is divided, so that no product wraps.
+pub fn lcm(a: usize, b: usize, most: usize) -> Option<usize>
     ensures { result ≡ within most (lcm a b) }
 {
     if b == 0 {
-        return Multiple::Of(0);
+        return Some(0);
     }
     let times = a / gcd(a, b);
     if most / b < times {
-        return Multiple::Above;
+        return None;
     }
-    Multiple::Of(times * b)
+    Some(times * b)
 }

@@ -3,9 +3,10 @@ use mathlib.Core.Path.{◌≡◌, refl, sym, ap, ◌∙◌}
 use mathlib.Core.List.{List, [], ◌∷◌}
 use Prim.Native.Nat.{ℕ, ◌-◌}
 use lib.ListN.{get_or}
+use Rattle.std.specs.Prelude.{Result, Ok, Err}
 use Rattle.refusal.specs.declared.Refusal.{Refusal}
 use Rattle.refusal.specs.declared.Refusal.TheVariants.{Count, Period, Run, Deadline, Offset, Hyperperiod, Startup, Cycle, Timer}
-use Rattle.refusal.specs.declared.Check.{Check}
+use Rattle.refusal.specs.declared.Refused.{Refused}
 use Rattle.refusal.specs.Refusals.{number_of, Finding, sound, refused, finding_of}
 
 -- a number says which refusal it was
@@ -31,14 +32,14 @@ pub number_once : (r s : Refusal) → number_of r ≡ number_of s → r ≡ s
 number_once r s e = sym (number_back r) ∙ ap refusal_of e ∙ number_back s
 
 -- a check's finding says which answer it was
-check_of : Finding → Check
-check_of sound = Check.Sound
-check_of (refused number i) = Check.Refused (refusal_of number) i
+check_of : Finding → Result (Unit {0}) Refused
+check_of sound = Ok tt
+check_of (refused number i) = Err (record { why = refusal_of number; task = i })
 
-check_back : (k : Check) → check_of (finding_of k) ≡ k
+check_back : (k : Result (Unit {0}) Refused) → check_of (finding_of k) ≡ k
 unfolding check_of
-check_back Check.Sound = refl
-check_back (Check.Refused r i) = ap (λ s. Check.Refused s i) (number_back r)
+check_back (Ok tt) = refl
+check_back (Err e) = ap (λ (s : Refusal). Err (record { why = s; task = e.task })) (number_back e.why)
 
-pub finding_once : (k k' : Check) → finding_of k ≡ finding_of k' → k ≡ k'
+pub finding_once : (k k' : Result (Unit {0}) Refused) → finding_of k ≡ finding_of k' → k ≡ k'
 finding_once k k' e = sym (check_back k) ∙ ap check_of e ∙ check_back k'

@@ -1,9 +1,8 @@
 -- Why a list or a buffer is refused: the paper's numbers, and that the first refusal that applies is given. Document 01, "What comes back", and request #105.
-use Rattle.std.specs.Prelude.{Bool, true, false, ℕ}
+use Rattle.std.specs.Prelude.{Bool, true, false, ℕ, Result, Ok, Err}
 use Rattle.refusal.specs.declared.Refusal.{Refusal}
 use Rattle.refusal.specs.declared.Refusal.TheVariants.{Count, Period, Run, Deadline, Offset, Hyperperiod, Startup, Cycle, Timer}
-use Rattle.refusal.specs.declared.Check.{Check}
-use Rattle.refusal.specs.declared.Check.TheVariants.{Sound, Refused}
+use Rattle.refusal.specs.declared.Refused.{Refused}
 
 infixr 40 ◌then◌
 -- the paper's number of each refusal
@@ -23,9 +22,10 @@ pub data Finding : Type 0 where
   sound : Finding
   refused : ℕ → ℕ → Finding
 
-abbrev pub finding_of : Check → Finding
-finding_of Sound = sound
-finding_of (Refused r i) = refused (number_of r) i
+-- what a check says
+abbrev pub finding_of : Result (Unit {0}) Refused → Finding
+finding_of (Ok u) = sound
+finding_of (Err e) = refused (number_of e.why) e.task
 
 abbrev pub refused_if : Bool → Refusal → ℕ → Finding
 refused_if true r i = refused (number_of r) i

@@ -4,24 +4,25 @@
 ghost use Rattle.std.specs.Prelude.{◌≡◌};
 ghost use Rattle.refusal.specs.Refusals.{number_of};
 
-#[derive(Clone, Copy)]
+// Each has the paper's number.
+#[derive(Clone, Copy, Debug, PartialEq, Eq)]
 pub enum Refusal {
-    Count,
-    Period,
-    Run,
-    Deadline,
-    Offset,
-    Hyperperiod,
-    Startup,
-    Cycle,
-    Timer,
+    Count = 1,
+    Period = 2,
+    Run = 3,
+    Deadline = 4,
+    Offset = 5,
+    Hyperperiod = 6,
+    Startup = 7,
+    Cycle = 8,
+    Timer = 9,
 }
 
-// What a check finds: nothing, or why it refuses and which task.
-#[derive(Clone, Copy)]
-pub enum Check {
-    Sound,
-    Refused(Refusal, usize),
+// Why a check refuses, and which task.
+#[derive(Clone, Copy, Debug, PartialEq, Eq)]
+pub struct Refused {
+    pub why: Refusal,
+    pub task: usize,
 }
 
 impl Refusal {
@@ -29,16 +30,6 @@ impl Refusal {
     pub fn number(self) -> usize
         ensures { result ≡ number_of self }
     {
-        match self {
-            Refusal::Count => 1,
-            Refusal::Period => 2,
-            Refusal::Run => 3,
-            Refusal::Deadline => 4,
-            Refusal::Offset => 5,
-            Refusal::Hyperperiod => 6,
-            Refusal::Startup => 7,
-            Refusal::Cycle => 8,
-            Refusal::Timer => 9,
-        }
+        self as usize
     }
 }

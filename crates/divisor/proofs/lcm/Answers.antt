@@ -3,9 +3,9 @@ use mathlib.Core.Path.{◌≡◌, sym, ap}
 use Prim.Native.Nat.{ℕ, ◌*◌, ◌/◌, ◌≤◌, ◌<◌}
 use native.Mathlib.Omega.{arith}
 use native.Mathlib.Nat.{mul-zero, le-div_iff_mul-le, div-lt_iff_lt-mul}
-use Rattle.divisor.specs.declared.Multiple.TheVariants.{Of, Above}
+use Rattle.std.specs.Prelude.{Some, None}
 use Rattle.divisor.specs.Divisors.{gcd, lcm, within}
-use Rattle.divisor.proofs.Divisors.{gcd_some, within_of, within_above}
+use Rattle.divisor.proofs.Divisors.{gcd_some, within_some, within_none}
 use Rattle.divisor.proofs.lcm.Goals as goal
 
 module _ (a b most g : ℕ) (some : b ≡ 0 → ⊥) (is-gcd : g ≡ gcd a b) where
@@ -19,14 +19,14 @@ module _ (a b most g : ℕ) (some : b ≡ 0 → ⊥) (is-gcd : g ≡ gcd a b) wh
   fits : a / g ≤ most / b → a / g * b ≤ most
   fits h = (le-div_iff_mul-le {k = b} (omega arith)).0 h
 
-  is_of : a / g ≤ most / b → Of (a / g * b) ≡ within most (lcm a b)
-  is_of h = rw product (sym (within_of (rw product at (fits h))))
+  is_some : a / g ≤ most / b → Some (a / g * b) ≡ within most (lcm a b)
+  is_some h = rw product (sym (within_some (rw product at (fits h))))
 
-  is_above : most / b < a / g → Above ≡ within most (lcm a b)
-  is_above h = sym (within_above (rw product at ((div-lt_iff_lt-mul {k = b} (omega arith)).0 h)))
+  is_none : most / b < a / g → None ≡ within most (lcm a b)
+  is_none h = sym (within_none (rw product at ((div-lt_iff_lt-mul {k = b} (omega arith)).0 h)))
 
-none : (a b most : ℕ) → b ≡ 0 → Of 0 ≡ within most (lcm a b)
-none a b most e = rw (e, mul-zero) (sym (within_of {most = most} (omega arith)))
+none : (a b most : ℕ) → b ≡ 0 → Some 0 ≡ within most (lcm a b)
+none a b most e = rw (e, mul-zero) (sym (within_some {most = most} (omega arith)))
 
 pub returns-then-b-eq0 : goal.returns-then-b-eq0
 returns-then-b-eq0 c = none c.args.a c.args.b c.args.most c.if-b-eq0.true
@@ -39,7 +39,7 @@ nonzero_div-times c =
 pub returns-then-most-b : goal.returns-then-most-b
 returns-then-most-b c =
     let x = c.args in
-    is_above x.a x.b x.most c.gcd.result c.if-b-eq0.false c.gcd.ensures c.if-most-b.true
+    is_none x.a x.b x.most c.gcd.result c.if-b-eq0.false c.gcd.ensures c.if-most-b.true
 
 pub overflow_mul-result : goal.overflow_mul-result
 overflow_mul-result c =
@@ -49,4 +49,4 @@ overflow_mul-result c =
 pub returns : goal.returns
 returns c =
     let x = c.args in
-    is_of x.a x.b x.most c.gcd.result c.if-b-eq0.false c.gcd.ensures c.if-most-b.false
+    is_some x.a x.b x.most c.gcd.result c.if-b-eq0.false c.gcd.ensures c.if-most-b.false
