@@ -1,31 +1,15 @@
--- A table of periods: looked up number by number, and the rule of one that passes a test, which is computed once for the whole table.
+-- A table of periods: the rule of one that passes a test, which is computed once for the whole table.
 use mathlib.Core.Path.{◌≡◌, refl, sym, ap, ◌∙◌}
 use mathlib.Core.Bool.{Bool, true, false, ◌&&◌, beq, and-eq-true_iff}
 use mathlib.Core.List.{List, [], ◌∷◌}
-use Prim.Native.Nat.{ℕ, zero, suc, ◌+◌, ◌≤◌, ◌<◌}
+use Prim.Native.Nat.{ℕ, zero, suc, ◌≤◌, ◌<◌}
 use native.Mathlib.Nat.{mod-eq_of_lt}
 use native.Mathlib.Decide.{dec_lt}
 use native.Mathlib.Omega.{arith}
-use native.Mathlib.Numerals.{add-one}
 use lib.Dec.{eqb, leb}
-use lib.ListN.{length, drop, get_or}
-use lib.Seq.{drop-cons, drop-length}
-use borrow.Author.Tests.{leb-true, eq-eqb, ne_eqb}
+use borrow.Author.Tests.{leb-true, ne_eqb}
 use Rattle.card.specs.Cards.{longest_timed, is_divisor}
 use Rattle.card.specs.Table.{is_among}
-
-module _ (table : List ℕ) (period i : ℕ) (inside : i < length table) where
-  pub among_found : get_or table i 0 ≡ period → is_among (drop i table) period ≡ true
-  unfolding is_among
-  among_found e = rw (drop-cons table i 0 inside, eq-eqb (get_or table i 0) period e)
-
-  pub among_past : (get_or table i 0 ≡ period → ⊥) → is_among (drop i table) period ≡ is_among (drop (i + 1) table) period
-  unfolding is_among
-  among_past n = rw (add-one, drop-cons table i 0 inside, ne_eqb (get_or table i 0) period n)
-
-pub among_end : (table : List ℕ) (period : ℕ) → is_among (drop (length table) table) period ≡ false
-unfolding is_among
-among_end table period = rw drop-length
 
 -- no number of the table is above 240
 unfoldable pub low : List ℕ → Bool

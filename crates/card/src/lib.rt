@@ -5,7 +5,7 @@ ghost use Rattle.std.specs.Prelude.{◌≡◌};
 ghost use Rattle.card.specs.Cards.{is_timed, is_divisor};
 ghost use Rattle.card.specs.Table.{is_among};
 
-#[derive(Clone, Copy)]
+#[derive(Clone, Copy, Debug, PartialEq, Eq)]
 pub enum Card {
     Wide,
     Small,
@@ -32,18 +32,13 @@ impl Card {
 fn on_small(period: usize) -> bool
     ensures { result ≡ is_divisor period }
 {
-    let table = Card::TIMER_PERIODS;
-    among(&table, period)
+    among(&Card::TIMER_PERIODS, period)
 }
 
-// Whether a table has a period, entry by entry.
+// Whether a table has a period.
+#[tactic(auto, unfolding(crate::specs::Table::is_among))]
 fn among(table: &[usize], period: usize) -> bool
     ensures { result ≡ is_among table.now period }
 {
-    for i in 0..table.len() {
-        if table[i] == period {
-            return true;
-        }
-    }
-    false
+    table.contains(&period)
 }
