@@ -10,11 +10,11 @@ ghost use Rattle.refusal.specs.Refusals.{finding_of};
 ghost use Rattle.task.specs.Checks.{is_unfit, task_refusal};
 
 use card::Card;
-use refusal::{Check, Refusal};
+use refusal::{Refusal, Refused};
 
 // Callers in C and Rust lend tasks in this layout.
 #[repr(C)]
-#[derive(Clone, Copy)]
+#[derive(Clone, Copy, Debug, PartialEq, Eq)]
 pub struct Task {
     pub offset: usize,
     pub run: usize,
@@ -44,31 +44,26 @@ impl Task {
     }
 
     // The first of refusals 2, 9, 3, 4 and 5 that the task meets, as task `number` of a list for a card.
-    pub fn check(self, card: Card, number: usize) -> Check
+    pub fn check(self, card: Card, number: usize) -> Result<(), Refused>
         ensures { finding_of result ≡ task_refusal card number self }
     {
         // Both tests of the period come first: the order of the refusals is that of what follows alone.
         let unfit = is_unfit(self.period);
         let untimed = !card.times(self.period);
-        if unfit {
-            return Check::Refused(Refusal::Period, number);
-        }
-        if untimed {
-            return Check::Refused(Refusal::Timer, number);
-        }
-        if self.run == 0 {
-            return Check::Refused(Refusal::Run, number);
-        }
-        if self.deadline < self.run {
-            return Check::Refused(Refusal::Run, number);
-        }
-        if self.period < self.deadline {
-            return Check::Refused(Refusal::Deadline, number);
-        }
-        if Task::LATEST_OFFSET < self.offset {
-            return Check::Refused(Refusal::Offset, number);
-        }
-        Check::Sound
+        let why = if unfit {
+            Refusal::Period
+        } else if untimed {
+            Refusal::Timer
+        } else if self.run == 0 || self.deadline < self.run {
+            Refusal::Run
+        } else if self.period < self.deadline {
+            Refusal::Deadline
+        } else if Task::LATEST_OFFSET < self.offset {
+            Refusal::Offset
+        } else {
+            return Ok(());
+        };
+        Err(Refused { why, task: number })
     }
 
     // Ties the limits to the numbers of specs/: a constant that differs has no proof.
@@ -84,8 +79,5 @@ impl Task {
 fn is_unfit(period: usize) -> bool
     ensures { result ≡ is_unfit period }
 {
-    if period == 0 {
-        return true;
-    }
-    Task::LONGEST_PERIOD < period
+    period == 0 || Task::LONGEST_PERIOD < period
 }

@@ -4,8 +4,8 @@ ghost use Rattle.task.specs.Arrays.{blank, fitting, empty, stored, added};
 
 use crate::Task;
 
-// The count is the list's true length, also where that is more than the array holds.
-#[derive(Clone, Copy)]
+// The count is the list's true length, also where that is more than the array holds, so it stands beside the array, which is of fixed memory.
+#[derive(Clone, Copy, Debug, PartialEq, Eq)]
 pub struct Tasks {
     pub items: [Task; Task::MOST],
     pub count: usize,
@@ -13,6 +13,7 @@ pub struct Tasks {
 
 impl Tasks {
     // The array of a list of `count` tasks, none of which is in it yet.
+    #[tactic(auto, unfolding(crate::specs::Arrays::blank))]
     pub fn sized(count: usize) -> Self
         ensures { result ≡ blank count }
     {
@@ -25,7 +26,7 @@ impl Tasks {
     pub fn room(n: usize) -> usize
         ensures { result ≡ fitting n }
     {
-        if n < Task::MOST { n } else { Task::MOST }
+        n.min(Task::MOST)
     }
 
     // The list of no tasks.
@@ -36,41 +37,25 @@ impl Tasks {
     }
 
     // The array with a task in its place, if it has that place; the list's length stays.
-    pub fn put(self, at: usize, task: Task) -> Self
+    #[tactic(auto, unfolding(crate::specs::Arrays::stored))]
+    pub fn put(mut self, at: usize, task: Task) -> Self
         ensures { result ≡ stored self at task }
     {
-        let held = self.items;
-        let items = placed(held, at, task);
-        Self {
-            items,
-            count: self.count,
+        // By index, since no proof knows an element that was written through the library's `get_mut`.
+        if at < Task::MOST {
+            self.items[at] = task;
         }
+        self
     }
 
     // The list with one task more.
+    #[tactic(auto, unfolding(crate::specs::Arrays::stored))]
     pub fn with(self, task: Task) -> Self
         ensures { result ≡ added self task }
     {
-        let at = self.count;
-        let longer = self.put(at, task);
-        let items = longer.items;
-        if at < usize::MAX {
-            return Self {
-                items,
-                count: at + 1,
-            };
+        Self {
+            count: self.count.saturating_add(1),
+            ..self.put(self.count, task)
         }
-        Self { items, count: at }
     }
-}
-
-// The array with a task in its place, or as it is where it has no such place.
-fn placed(items: [Task; Task::MOST], at: usize, task: Task) -> [Task; Task::MOST]
-    ensures { result ≡ set items at task }
-{
-    let mut next = items;
-    if at < Task::MOST {
-        next[at] = task;
-    }
-    next
 }
