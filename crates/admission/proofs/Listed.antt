@@ -1,87 +1,48 @@
--- The first n tasks of an array, task by task: what each check, each fold of a period and each sum adds.
-use mathlib.Core.Path.{◌≡◌, sym, ap, ◌∙◌}
-use mathlib.Core.List.{List}
-use Prim.Native.Nat.{ℕ, suc, ◌+◌, ◌≤◌, ◌<◌}
+-- A list, task by task: what each fold of an offset, of a period and of what a task wants adds.
+use Rattle.std.proofs.Common.{◌≡◌, ◌∙◌, sym, ap, List, [], ◌∷◌, ℕ, ◌+◌, ◌≤◌, ◌<◌, max, length, take, Option, Some, None, arith}
 use native.Mathlib.Nat.{mul-le-mul_right, mul-div-le}
-use native.Mathlib.Numerals.{add-one}
-use native.Mathlib.Omega.{arith}
-use lib.ListN.{length, take, drop, length-take, drop_of_length-le}
-use lib.Seq.{drop-cons, take-take, get_or-take, length-take-le}
-use Rattle.divisor.specs.declared.Multiple.{Multiple}
-use Rattle.divisor.specs.declared.Multiple.TheVariants.{Of, Above}
+use Rattle.std.specs.List.{fold}
 use Rattle.divisor.specs.Divisors.{lcm, within}
-use Rattle.divisor.proofs.Divisors.{within_above, is_of, is_above}
-use Rattle.card.specs.declared.Card.{Card}
+use Rattle.divisor.proofs.Divisors.{within_none, is_some, is_none}
 use Rattle.card.specs.declared.Card.TheVariants.{Wide}
 use Rattle.task.specs.declared.Task.{Task}
-use Rattle.refusal.specs.declared.Refusal.{Refusal}
-use Rattle.refusal.specs.declared.Check.{Check}
-use Rattle.refusal.specs.declared.Check.TheVariants.{Sound, Refused}
-use Rattle.task.specs.Tasks.{nobody, task, hyperperiod, sum, turns, want, load}
-use Rattle.refusal.specs.Refusals.{number_of, sound, refused, finding_of, ◌then◌}
-use Rattle.task.specs.Checks.{task_refusal, tasks_refusal}
-use Rattle.task.proofs.Refusing.{Fine, tasks_fine}
+use Rattle.task.specs.Tasks.{task, latest, hyperperiod, turns, want}
+use Rattle.refusal.specs.Refusals.{sound}
+use Rattle.task.specs.Checks.{tasks_refusal}
+use Rattle.task.proofs.Refusing.{tasks_fine}
 use Rattle.task.proofs.Hyperperiods.{hyperperiod_next, hyperperiod_grows}
 
--- What is found at task i decides, or leaves the tasks after it.
-module _ (c : Card) (items : List Task) (n : ℕ) (room : n ≤ length items) where
-  abbrev listed : List Task
-  listed = take n items
+fold_on : (l : List Task) (m : ℕ) → fold (λ m (τ : Task). max m τ.offset) m l ≡ max m (latest l)
+fold_on [] m = omega arith
+fold_on (τ ∷ l) m = omega (arith, fold_on l (max m τ.offset))
 
-  tasks_next : (i : ℕ) → i < n → tasks_refusal c i (drop i listed) ≡ (task_refusal c i (task items i) then tasks_refusal c (suc i) (drop (suc i) listed))
-  tasks_next i b =
-      rw (drop-cons listed i nobody (omega (arith, length-take n items)), get_or-take n items i nobody b)
+pub latest_fold : (l : List Task) → fold (λ m (τ : Task). max m τ.offset) 0 l ≡ latest l
+latest_fold l = omega (arith, fold_on l 0)
 
-  module _ (i : ℕ) (b : i < n) (k : Check) (found : finding_of k ≡ task_refusal c i (task items i))
-      (so_far : tasks_refusal c 0 listed ≡ tasks_refusal c i (drop i listed)) where
-    pub refused_here : (r : Refusal) (j : ℕ) → k ≡ Refused r j → refused (number_of r) j ≡ tasks_refusal c 0 listed
-    refused_here r j e = sym (so_far ∙ tasks_next i b ∙ ap (λ f. f then tasks_refusal c (suc i) (drop (suc i) listed)) (sym found ∙ ap finding_of e))
+module _ (l : List Task) (ok : tasks_refusal Wide 0 l ≡ sound) where
+  -- what a task wants in H instants is no more than H
+  pub want_few : (H i : ℕ) → i < length l → want l H i ≤ H
+  want_few H i b =
+      let f = tasks_fine Wide 0 l ok i b in
+      let e : (task l i).run ≤ (task l i).period = omega (arith, f.fits, f.within) in
+      omega (arith, mul-le-mul_right (turns l H i) e, mul-div-le H (task l i).period)
 
-    pub sound_here : k ≡ Sound → tasks_refusal c 0 listed ≡ tasks_refusal c (i + 1) (drop (i + 1) listed)
-    sound_here e =
-        rw add-one (so_far ∙ tasks_next i b ∙ ap (λ f. f then tasks_refusal c (suc i) (drop (suc i) listed)) (sym found ∙ ap finding_of e))
+  pub live : (i : ℕ) → i < length l → 0 < (task l i).period
+  live i b = (tasks_fine Wide 0 l ok i b).live
 
-  pub sound_all : tasks_refusal c 0 listed ≡ tasks_refusal c n (drop n listed) → sound ≡ tasks_refusal c 0 listed
-  sound_all e = sym (e ∙ ap (tasks_refusal c n) (drop_of_length-le listed {i = n} (omega (arith, length-take n items))))
+  -- The fold of the periods, stopped at a limit: h is what the first i periods give, and k what period i makes of it.
+  module _ (most i h : ℕ) (b : i < length l) (so_far : h ≡ hyperperiod (take i l))
+      (k : Option ℕ) (is : k ≡ within most (lcm h (task l i).period)) where
+    next : lcm h (task l i).period ≡ hyperperiod (take (i + 1) l)
+    next = ap (λ x. lcm x (task l i).period) so_far ∙ sym (hyperperiod_next l i b)
 
--- what a task wants in H instants is no more than H
-pub want_few : (l : List Task) (H i : ℕ) → Fine (task l i) → want l H i ≤ H
-want_few l H i f =
-    let τ = task l i in
-    let e : τ.run ≤ τ.period = omega (arith, f.fits, f.within) in
-    omega (arith, mul-le-mul_right (turns l H i) e, mul-div-le H τ.period)
+    pub goes_on : (m : ℕ) → k ≡ Some m → (m ≤ most) × (m ≡ hyperperiod (take (i + 1) l))
+    goes_on m e =
+        let o = is_some most (lcm h (task l i).period) m (sym is ∙ e) in
+        (omega (arith, o.0, o.1), o.1 ∙ next)
 
--- The sum of what they want, where none of them is refused.
-module _ (items : List Task) (n H : ℕ) (room : n ≤ length items) (ok : tasks_refusal Wide 0 (take n items) ≡ sound) where
-  pub task_fine : (i : ℕ) → i < n → Fine (task items i)
-  task_fine i b = rw (get_or-take n items i nobody) at (tasks_fine Wide 0 (take n items) ok i (omega (arith, length-take n items)))
-
-  pub want_next : (i : ℕ) → i < n → sum (want (take n items) H) (i + 1) ≡ sum (want (take n items) H) i + want items H i
-  want_next i b = rw (add-one, get_or-take n items i nobody b)
-
-  pub load_is : sum (want (take n items) H) n ≡ load (take n items) H
-  load_is = ap (sum (want (take n items) H)) (sym (length-take-le n items room))
-
--- The fold of the periods, stopped at a limit: h is what the first i periods give, and k what period i makes of it.
-module _ (items : List Task) (n most i h : ℕ) (room : n ≤ length items) (b : i < n) (so_far : h ≡ hyperperiod (take i items))
-    (k : Multiple) (is : k ≡ within most (lcm h (task items i).period)) where
-  next : lcm h (task items i).period ≡ hyperperiod (take (i + 1) items)
-  next = ap (λ x. lcm x (task items i).period) so_far ∙ sym (hyperperiod_next items i (omega arith))
-
-  pub goes_on : (m : ℕ) → k ≡ Of m → (m ≤ most) × (m ≡ hyperperiod (take (i + 1) items))
-  goes_on m e =
-      let o = is_of most (lcm h (task items i).period) m (sym is ∙ e) in
-      (omega (arith, o.0, o.1), o.1 ∙ next)
-
-  pub ends_early : ((j : ℕ) → j < n → 0 < (task items j).period) → k ≡ Above → Above ≡ within most (hyperperiod (take n items))
-  ends_early live e = sym (within_above over)
-    where
-      grown : hyperperiod (take (i + 1) items) ≤ hyperperiod (take n items)
-      grown =
-          rw (take-take (i + 1) n items (omega arith)) at
-          (hyperperiod_grows (take n items)
-          (λ j q. let r : j < n = omega (arith, length-take n items) in rw (get_or-take n items j nobody r) (live j r))
-          (i + 1) (omega (arith, length-take n items)))
-
-      over : most < hyperperiod (take n items)
-      over = omega (arith, is_above most (lcm h (task items i).period) (sym is ∙ e), next, grown)
+    pub ends_early : k ≡ None → None ≡ within most (hyperperiod l)
+    ends_early e = sym (within_none over)
+      where
+        over : most < hyperperiod l
+        over = omega (arith, is_none most (lcm h (task l i).period) (sym is ∙ e), next, hyperperiod_grows l live (i + 1) (omega arith))

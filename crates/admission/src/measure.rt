@@ -1,6 +1,6 @@
-// M, H and L of the first n tasks of an array. Document 01, "How far to look".
+// M, H and L of a list. Document 01, "How far to look".
 // Not for other crates: `admit` checks what these ask for.
-ghost use Rattle.std.specs.Prelude.{◌≡◌, ◌≤◌, take};
+ghost use Rattle.std.specs.Prelude.{◌≡◌, ◌≤◌, length};
 ghost use Rattle.card.specs.declared.Card.TheVariants.{Wide};
 ghost use Rattle.task.specs.Limits.{most_tasks, longest_hyperperiod};
 ghost use Rattle.divisor.specs.Divisors.{within};
@@ -8,56 +8,37 @@ ghost use Rattle.task.specs.Tasks.{latest, hyperperiod, load};
 ghost use Rattle.refusal.specs.Refusals.{sound};
 ghost use Rattle.task.specs.Checks.{tasks_refusal};
 
-use divisor::{Multiple, lcm};
+use divisor::lcm;
 use task::Task;
 
 // The largest offset.
-pub(crate) fn latest(items: [Task; Task::MOST], n: usize) -> usize
-    requires { n ≤ most_tasks }
-    ensures { result ≡ latest (take n items) }
+pub(crate) fn latest(tasks: &[Task]) -> usize
+    ensures { result ≡ latest tasks.now }
 {
-    let mut most: usize = 0;
-    for i in 0..n {
-        let task = items[i];
-        if most < task.offset {
-            most = task.offset;
-        }
-    }
-    most
+    tasks.iter().map(|task| task.offset).max().unwrap_or(0)
 }
 
 // The least common multiple of all periods. Once it is above the limit it stays there, so the fold ends early.
-pub(crate) fn hyperperiod(items: [Task; Task::MOST], n: usize) -> Multiple
-    requires few { n ≤ most_tasks }
-    requires no_refusal { tasks_refusal Wide 0 (take n items) ≡ sound }
-    ensures { result ≡ within longest_hyperperiod (hyperperiod (take n items)) }
+pub(crate) fn hyperperiod(tasks: &[Task]) -> Option<usize>
+    requires { tasks_refusal Wide 0 tasks.now ≡ sound }
+    ensures { result ≡ within longest_hyperperiod (hyperperiod tasks.now) }
 {
     let mut whole: usize = 1;
-    for i in 0..n {
-        let task = items[i];
-        let next = lcm(whole, task.period, Task::LONGEST_HYPERPERIOD);
-        match next {
-            Multiple::Of(m) => {
-                whole = m;
-            }
-            Multiple::Above => {
-                return Multiple::Above;
-            }
-        }
+    for task in tasks {
+        whole = lcm(whole, task.period, Task::LONGEST_HYPERPERIOD)?;
     }
-    Multiple::Of(whole)
+    Some(whole)
 }
 
 // The slots that all tasks want in `whole` instants.
-pub(crate) fn load(items: [Task; Task::MOST], n: usize, whole: usize) -> usize
-    requires few { n ≤ most_tasks }
-    requires no_refusal { tasks_refusal Wide 0 (take n items) ≡ sound }
+pub(crate) fn load(tasks: &[Task], whole: usize) -> usize
+    requires few { length tasks.now ≤ most_tasks }
+    requires no_refusal { tasks_refusal Wide 0 tasks.now ≡ sound }
     requires limited { whole ≤ longest_hyperperiod }
-    ensures { result ≡ load (take n items) whole }
+    ensures { result ≡ load tasks.now whole }
 {
     let mut slots: usize = 0;
-    for i in 0..n {
-        let task = items[i];
+    for task in tasks {
         slots += task.run * (whole / task.period);
     }
     slots

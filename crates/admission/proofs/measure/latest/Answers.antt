@@ -1,22 +1,20 @@
--- `measure::latest` meets its contract: `most` is the largest offset of the first i tasks.
-use mathlib.Core.Path.{◌≡◌, refl, ap, ◌∙◌}
-use Prim.Native.Nat.{ℕ}
-use native.Mathlib.Omega.{arith}
-use lib.ListN.{take}
-use Rattle.task.specs.Tasks.{latest}
-use Rattle.task.proofs.Offsets.{latest_next}
+-- `measure::latest` meets its contract: the largest of the offsets, or 0 where there is none.
+use Rattle.std.proofs.Common.{ℕ, rules, tests, ap, ◌∙◌}
+use Rattle.std.proofs.lemmas.Iterator.{YieldsList-from_slice, YieldsList-from_map}
+use Rattle.std.proofs.lemmas.Iterator.Consumers.{reduce_from_yields_List}
+use Rattle.std.proofs.lemmas.List.Folds.{max_of_map}
+use Rattle.std.specs.Option.{unwrap_or}
+use Rattle.task.specs.declared.Task.{Task}
+use Rattle.admission.proofs.Listed.{latest_fold}
 use Rattle.admission.proofs.measure.latest.Goals as goal
-use Rattle.admission.proofs.measure.latest.Goals.{then-most-task, else-most-task}
 
-pub loop-i-init : goal.loop-i-init
-loop-i-init c = (omega arith, refl)
-
-pub loop-i-preserved : goal.loop-i-preserved
-loop-i-preserved c =
-    let h = latest_next c.args.items c.loop-i.i (omega (arith, c.well_formed.0)) in
-    elim c.if-most-task.branch [ then-most-task w ↦ omega (arith, h) | else-most-task w ↦ omega (arith, h) ]
+abbrev offset_of : Task → ℕ
+offset_of τ = τ.offset
 
 pub returns : goal.returns
 returns c =
-    let e : c.loop-i.i ≡ c.args.n = omega arith in
-    c.loop-i.invariant.1 ∙ ap (λ (k : ℕ). latest (take k c.args.items)) e
+    let l = c.args.tasks.now in
+    c.unwrap_or.ensures
+    ∙ ap (λ o. unwrap_or o 0) (reduce_from_yields_List _ c.map.result _ c.max.ensures.ran (YieldsList-from_map _ offset_of (YieldsList-from_slice l cc) c.map.ensures.closure (λ x b q k. search (rules, tests))))
+    ∙ max_of_map offset_of l
+    ∙ latest_fold l
