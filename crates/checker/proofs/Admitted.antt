@@ -5,8 +5,9 @@ use Prim.Native.Nat.{ℕ, ◌≤◌, ◌<◌}
 use native.Mathlib.Omega.{arith}
 use lib.ListN.{length, take}
 use lib.Seq.{take_all}
+use Rattle.std.specs.Prelude.{Result, Ok, Err}
 use Rattle.refusal.specs.Refusals.{sound}
-use Rattle.refusal.specs.declared.Refusal.{Refusal}
+use Rattle.refusal.specs.declared.Refused.{Refused}
 use Rattle.card.specs.declared.Card.{Card}
 use Rattle.card.specs.declared.Card.TheVariants.{Wide}
 use Rattle.task.specs.declared.Task.{Task}
@@ -18,8 +19,6 @@ use Rattle.task.proofs.Refusing.{passed}
 use Rattle.task.proofs.Cards.{nine_or_wide, not_nine}
 use Rattle.task.proofs.Held.{held}
 use Rattle.admission.specs.declared.Measures.{Measures}
-use Rattle.admission.specs.declared.Admission.{Admission}
-use Rattle.admission.specs.declared.Admission.TheVariants.{Refused, Sound}
 use Rattle.admission.specs.Admissions.{measures_of, IsSound, Admits}
 use Rattle.schedule.specs.declared.Policy.{Policy}
 use Rattle.answer.specs.declared.Answer.{Answer}
@@ -30,9 +29,9 @@ use Rattle.answer.proofs.Cards.{as_on}
 use Rattle.state.specs.Engine.{Ready}
 
 module _ (card : Card) (p : Policy) (l : List Task) (startup cycle : List ℕ) where
-  pub refused : (a : Admission) (r : Refusal) (i : ℕ) → a ≡ Refused r i → Admits card l (length startup) (length cycle) a →
-      Promised card p l startup cycle (Answer.Refused r i) startup cycle
-  refused a r i e x = record {
+  pub refused : (a : Result Measures Refused) (f : Refused) → a ≡ Err f → Admits card l (length startup) (length cycle) a →
+      Promised card p l startup cycle (Answer.Refused f.why f.task) startup cycle
+  refused a f e x = record {
     demand_2 = record { is_first_refusal = rw e at x; buffers = record { startup_kept = refl; cycle_kept = refl } };
     demand_3 = tt;
   }
@@ -65,7 +64,7 @@ module _ (p : Policy) (l : List Task) (startup cycle : List ℕ) (m : Measures) 
 first_tasks : (ts : Tasks) (l : List Task) → Holds ts l → length l ≤ most_tasks → take ts.count ts.items ≡ l
 first_tasks ts l h few = h.begins ∙ take_all most_tasks l few
 
-module _ (card : Card) (ts : Tasks) (startup cycle : List ℕ) (a : Admission) (m : Measures) (e : a ≡ Sound m)
+module _ (card : Card) (ts : Tasks) (startup cycle : List ℕ) (a : Result Measures Refused) (m : Measures) (e : a ≡ Ok m)
     (x : (l : List Task) → Holds ts l → Admits card l (length startup) (length cycle) a) where
   is_sound : (l : List Task) → Holds ts l → IsSound card l (length startup) (length cycle) m
   is_sound l h = rw e at (x l h)

@@ -12,7 +12,7 @@ ghost use Rattle.answer.specs.Promise.{Permitted, Promised};
 
 use crate::start::{begin, spread};
 use crate::tables::tables;
-use admission::{Admission, Measures};
+use admission::Measures;
 use answer::Answer;
 use card::Card;
 use schedule::Policy;
@@ -32,8 +32,8 @@ pub(crate) fn checked(
     let list = Tasks { items, count };
     let admitted = admission::admit(list, card, startup.len(), cycle.len());
     match admitted {
-        Admission::Refused(why, task) => Answer::Refused(why, task),
-        Admission::Sound(measures) => judged(items, count, policy, measures, startup, cycle),
+        Err(refused) => Answer::Refused(refused.why, refused.task),
+        Ok(measures) => judged(items, count, policy, measures, startup, cycle),
     }
 }
 

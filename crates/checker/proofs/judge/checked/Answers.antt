@@ -13,14 +13,14 @@ list items count = record { items = items; count = count }
 pub judged-requires : goal.judged-requires
 judged-requires c =
     let f = first_sound c.args.card (list c.args.items c.args.count) c.args.startup.now c.args.cycle.now
-    c.admit-admitted.result c.in-Sound.measures c.in-Sound.is c.admit-admitted.ensures (omega (arith, c.well_formed.0)) in
+    c.admit-admitted.result c.in-Ok.measures c.in-Ok.is c.admit-admitted.ensures (omega (arith, c.well_formed.0)) in
     record { few = f.0; no_refusal = f.1; measured = f.2 }
 
-pub returns-in-Refused : goal.returns-in-Refused
-returns-in-Refused c =
-    λ l h. refused c.args.card c.args.policy l c.args.startup.now c.args.cycle.now c.admit-admitted.result _ _ c.in-Refused.is (c.admit-admitted.ensures l h)
+pub returns-in-Err : goal.returns-in-Err
+returns-in-Err c =
+    λ l h. refused c.args.card c.args.policy l c.args.startup.now c.args.cycle.now c.admit-admitted.result _ c.in-Err.is (c.admit-admitted.ensures l h)
 
-pub returns-in-Sound : goal.returns-in-Sound
-returns-in-Sound c =
-    promised c.args.card (list c.args.items c.args.count) c.args.startup.now c.args.cycle.now c.admit-admitted.result c.in-Sound.measures
-    c.in-Sound.is c.admit-admitted.ensures c.args.policy _ _ c.judged.result c.judged.ensures
+pub returns-in-Ok : goal.returns-in-Ok
+returns-in-Ok c =
+    promised c.args.card (list c.args.items c.args.count) c.args.startup.now c.args.cycle.now c.admit-admitted.result c.in-Ok.measures
+    c.in-Ok.is c.admit-admitted.ensures c.args.policy _ _ c.judged.result c.judged.ensures
