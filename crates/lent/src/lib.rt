@@ -28,13 +28,9 @@ pub fn check(
 pub fn load(list: &[Task]) -> Tasks
     ensures { result ≡ array_of list.now }
 {
-    let n = list.len();
-    let mut own = Tasks::sized(n);
-    let end = Tasks::room(n);
-    let mut i = 0;
-    while i < end {
-        own = own.put(i, list[i]);
-        i += 1;
-    }
-    own
+    let count = list.len();
+    let room = Tasks::room(count);
+    let mut items = Tasks::sized(count).items;
+    items[..room].copy_from_slice(&list[..room]);
+    Tasks { items, count }
 }
