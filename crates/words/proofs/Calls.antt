@@ -1,38 +1,20 @@
--- A call that is misread, a call that is understood, and that what is promised leaves one outcome.
-use mathlib.Core.Path.{◌≡◌, refl, sym, ap, ◌∙◌}
+-- What is promised leaves one outcome.
+use mathlib.Core.Path.{◌≡◌, sym, ap, ◌∙◌}
 use mathlib.Core.Bool.{Bool, true, false, ◌||◌, true≢false}
 use mathlib.Core.List.{List}
 use Prim.Native.Nat.{ℕ}
 use lib.ListN.{length}
-use Rattle.card.specs.declared.Card.{Card}
 use Rattle.task.specs.declared.Task.{Task}
 use Rattle.task.specs.declared.list.Tasks.{Tasks}
 use Rattle.task.specs.Limits.{most_tasks}
 use Rattle.task.specs.Arrays.{Holds}
 use Rattle.task.proofs.Held.{held}
-use Rattle.schedule.specs.declared.Policy.{Policy}
 use Rattle.answer.specs.declared.Answer.{Answer}
 use Rattle.answer.specs.Answers.{row}
-use Rattle.answer.specs.Promise.{Promised}
 use Rattle.answer.proofs.Pinned.{answer_pinned}
-use Rattle.words.specs.Words.{card_of, policy_of, tasks_of, code, written, misread, ragged, not_understood, either, Answered, AnsweredWords}
+use Rattle.words.specs.Words.{card_of, policy_of, tasks_of, code, written, misread, ragged, either, Answered, AnsweredWords}
 
 module _ (card policy : ℕ) (l : List Task) (startup cycle words : List ℕ) where
-  pub not_understood_lem : (b : Bool) → b ≡ true → either card policy l startup cycle words b not_understood startup cycle words
-  not_understood_lem true e = record { is_code = refl; tables = record { startup_kept = refl; cycle_kept = refl }; words_kept = refl }
-  not_understood_lem false e = absurd (true≢false (sym e))
-
-  pub understood : misread card policy words ≡ false → (k : Card) (p : Policy) (a : Answer) (n : ℕ) (s c w : List ℕ) → k ≡ card_of card → p ≡ policy_of policy →
-      Promised k p l startup cycle a s c → n ≡ code (row a) → w ≡ written (row a) words → Answered card policy l startup cycle words n s c w
-  understood e k p a n s c w is_card_lem is-policy says is_code is_written = go (misread card policy words) e
-    where
-      promised : Promised (card_of card) (policy_of policy) l startup cycle a s c
-      promised = rw (is_card_lem, is-policy) at says
-
-      go : (b : Bool) → b ≡ false → either card policy l startup cycle words b n s c w
-      go true e = absurd (true≢false e)
-      go false e = record { answer = a; promised = promised; is_code = is_code; is_written = is_written }
-
   either_pinned : (n n' : ℕ) (s c w s' c' w' : List ℕ) (b : Bool) → either card policy l startup cycle words b n s c w → either card policy l startup cycle words b n' s' c' w' →
       (n ≡ n') × (s ≡ s') × (c ≡ c') × (w ≡ w')
   either_pinned n n' s c w s' c' w' true x y = (

@@ -9,7 +9,7 @@ ghost use Rattle.task.specs.declared.Task.{Task};
 ghost use Rattle.task.specs.Arrays.{Holds};
 ghost use Rattle.words.specs.Words.{Answered};
 
-use crate::list::{card_of, policy_of};
+use crate::list::understood;
 use crate::row::tell;
 use task::list::Tasks;
 
@@ -27,15 +27,12 @@ pub fn answered(
 ) -> u64
     ensures { (l : List Task) → Holds own l → Answered card policy l startup.old cycle.old row.old result startup.new cycle.new row.new }
 {
-    if list::LAST_CARD < card {
+    let Some((card, policy)) = understood(card, policy) else {
         return NOT_UNDERSTOOD;
-    }
-    if list::LAST_POLICY < policy {
-        return NOT_UNDERSTOOD;
-    }
+    };
     if row.len() < row::LENGTH {
         return NOT_UNDERSTOOD;
     }
-    let answer = checker::check(own, card_of(card), policy_of(policy), startup, cycle);
+    let answer = checker::check(own, card, policy, startup, cycle);
     tell(answer, row)
 }

@@ -1,8 +1,8 @@
 // A card, a policy and a list, read from words.
-ghost use Rattle.std.specs.Prelude.{◌≡◌, ◌+◌, ◌*◌, ◌<◌, length};
+ghost use Rattle.std.specs.Prelude.{◌≡◌};
 ghost use Rattle.task.specs.Arrays.{array_of};
-ghost use Rattle.words.specs.Words.{card_of, policy_of, task_words, tasks_of};
-ghost use Rattle.words.specs.Reading.{task_at};
+ghost use Rattle.words.specs.Words.{card_of, policy_of, tasks_of};
+ghost use Rattle.words.specs.Reading.{named, task_at};
 
 use card::Card;
 use schedule::Policy;
@@ -18,7 +18,7 @@ pub const LAST_CARD: u64 = 1;
 
 pub const LAST_POLICY: u64 = 3;
 
-// 0 wide, 1 small.
+// 0 wide, 1 small. Total, since callers from outside may stand on it: `understood` says which numbers name a card and a policy.
 pub fn card_of(number: u64) -> Card
     ensures { result ≡ card_of number }
 {
@@ -28,7 +28,7 @@ pub fn card_of(number: u64) -> Card
     }
 }
 
-// 0 list order, 1 rate monotonic, 2 deadline monotonic, 3 earliest deadline first.
+// 0 list order, 1 rate monotonic, 2 deadline monotonic, 3 earliest deadline first. Total, as `card_of`.
 pub fn policy_of(number: u64) -> Policy
     ensures { result ≡ policy_of number }
 {
@@ -40,27 +40,37 @@ pub fn policy_of(number: u64) -> Policy
     }
 }
 
+// The card and the policy that two numbers name, where each names one.
+pub fn understood(card: u64, policy: u64) -> Option<(Card, Policy)>
+    ensures { result ≡ named card policy }
+{
+    if LAST_CARD < card || LAST_POLICY < policy {
+        return None;
+    }
+    Some((card_of(card), policy_of(policy)))
+}
+
+// The checker's own array of the tasks of a list of words. No more are read than it has room for.
 pub fn tasks_of(list: &[u64]) -> Tasks
     ensures { result ≡ array_of (tasks_of list.now) }
 {
-    let n = list.len() / EACH;
-    let mut tasks = Tasks::sized(n);
-    let end = Tasks::room(n);
-    for i in 0..end {
-        tasks = tasks.put(i, task_at(list, i));
+    let (tasks, _) = list.as_chunks::<EACH>();
+    let room = Tasks::room(tasks.len());
+    let mut own = Tasks::sized(tasks.len());
+    for (i, words) in tasks[..room].iter().enumerate() {
+        own = own.put(i, task_of(*words));
     }
-    tasks
+    own
 }
 
-fn task_at(list: &[u64], i: usize) -> Task
-    requires { task_words * i + 3 < length list.now }
-    ensures { result ≡ task_at list.now i }
+fn task_of(words: [u64; EACH]) -> Task
+    ensures { result ≡ task_at words 0 }
 {
-    let at = EACH * i;
+    let [offset, run, deadline, period] = words;
     Task::new(
-        list[at] as usize,
-        list[at + 1] as usize,
-        list[at + 2] as usize,
-        list[at + 3] as usize,
+        offset as usize,
+        run as usize,
+        deadline as usize,
+        period as usize,
     )
 }
