@@ -1,16 +1,13 @@
--- Calls over texts: what is not understood, what is, and that what is promised leaves one outcome.
-use mathlib.Core.Path.{◌≡◌, refl, sym, ap, ◌∙◌}
-use mathlib.Core.Bool.{Bool, true, false, true≢false}
+-- Calls over texts: what is promised leaves one outcome.
+use mathlib.Core.Path.{◌≡◌, sym, ap, ◌∙◌}
+use mathlib.Core.Bool.{Bool, true, false}
 use mathlib.Core.List.{List}
 use Prim.Native.Nat.{ℕ}
-use Rattle.card.specs.declared.Card.{Card}
-use Rattle.schedule.specs.declared.Policy.{Policy}
 use Rattle.text.specs.Reading.{reading}
-use Rattle.writer.specs.declared.Saved.{Saved}
-use Rattle.writer.specs.Writing.{SavedAs, saved_number}
+use Rattle.writer.specs.Writing.{saved_number}
 use Rattle.writer.proofs.Pinned.{saved_pinned}
 use Rattle.output.proofs.Pinned.{printed_pinned}
-use Rattle.words.specs.Words.{card_of, policy_of, tasks_of, not_understood}
+use Rattle.words.specs.Words.{card_of, policy_of, tasks_of}
 use Rattle.sholakpite.specs.Texts.{length_of, AnsweredText, misread_text, either_text, WrittenText}
 
 -- `sholakpite_answer` has one outcome
@@ -21,17 +18,6 @@ answer_text_pinned input buffer n n' left left' x y =
     (x.is_length ∙ ap length_of e.0 ∙ sym y.is_length, e.1)
 
 module _ (card policy : ℕ) (list buffer : List ℕ) where
-  pub text_not_understood : (b : Bool) → b ≡ true → either_text card policy list buffer b not_understood buffer
-  text_not_understood true e = record { is_code = refl; kept = refl }
-  text_not_understood false e = absurd (true≢false (sym e))
-
-  pub text_understood : (b : Bool) → b ≡ false → (k : Card) (p : Policy) (s : Saved) (n : ℕ) (left : List ℕ) → k ≡ card_of card → p ≡ policy_of policy →
-      SavedAs k p (tasks_of list) buffer s left → n ≡ saved_number s → either_text card policy list buffer b n left
-  text_understood true e k p s n left is_card_lem is-policy x is_number = absurd (true≢false e)
-  text_understood false e k p s n left is_card_lem is-policy x is_number =
-      let y : SavedAs (card_of card) (policy_of policy) (tasks_of list) buffer s left = rw (is_card_lem, is-policy) at x in
-      record { saved = s; saved_as = y; is_number = is_number }
-
   -- `sholakpite_write_card` has one outcome, and so has `sholakpite_write`
   pub write_text_pinned : (n n' : ℕ) (left left' : List ℕ) → WrittenText card policy list buffer n left → WrittenText card policy list buffer n' left' →
       (n ≡ n') × (left ≡ left')

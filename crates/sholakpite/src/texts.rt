@@ -3,7 +3,7 @@ ghost use Rattle.words.specs.Words.{wide_card};
 ghost use Rattle.sholakpite.specs.Texts.{AnsweredText, WrittenText};
 
 use decimal::Written;
-use words::list::{card_of, policy_of, tasks_of};
+use words::list::{tasks_of, understood};
 use words::{NOT_UNDERSTOOD, list};
 
 // What the program prints for an input, and its length; 0, with nothing written, where `out` is shorter.
@@ -25,13 +25,10 @@ pub extern "C" fn sholakpite_write_card(card: u64, policy: u64, list: &[u64], ou
     if list.len() % list::EACH != 0 {
         return NOT_UNDERSTOOD;
     }
-    if list::LAST_CARD < card {
+    let Some((card, policy)) = understood(card, policy) else {
         return NOT_UNDERSTOOD;
-    }
-    if list::LAST_POLICY < policy {
-        return NOT_UNDERSTOOD;
-    }
-    let saved = writer::write(tasks_of(list), card_of(card), policy_of(policy), out);
+    };
+    let saved = writer::write(tasks_of(list), card, policy, out);
     saved.number() as u64
 }
 
