@@ -1,15 +1,18 @@
 -- A list, task by task: what each fold of an offset, of a period and of what a task wants adds.
-use Rattle.std.proofs.Common.{◌≡◌, ◌∙◌, sym, ap, List, [], ◌∷◌, ℕ, ◌+◌, ◌≤◌, ◌<◌, max, length, take, Option, Some, None, arith}
+use Rattle.std.proofs.Common.{◌≡◌, ◌∙◌, refl, sym, ap, List, [], ◌∷◌, ℕ, zero, suc, ◌+◌, ◌*◌, ◌/◌, ◌≤◌, ◌<◌, max, length, get_or, take, add-one, Option, Some, None, arith}
 use native.Mathlib.Nat.{mul-le-mul_right, mul-div-le}
-use Rattle.std.specs.List.{fold}
+use lib.Seq.{take_all}
+use Rattle.std.specs.List.{fold, sum_by}
+use Rattle.std.proofs.lemmas.List.{get_or_default}
+use Rattle.std.proofs.lemmas.List.Sums.{sum_by_more}
 use Rattle.divisor.specs.Divisors.{lcm, within}
 use Rattle.divisor.proofs.Divisors.{within_none, is_some, is_none}
 use Rattle.card.specs.declared.Card.TheVariants.{Wide}
 use Rattle.task.specs.declared.Task.{Task}
-use Rattle.task.specs.Tasks.{task, latest, hyperperiod, turns, want}
+use Rattle.task.specs.Tasks.{nobody, task, latest, hyperperiod, sum, want, load}
 use Rattle.refusal.specs.Refusals.{sound}
 use Rattle.task.specs.Checks.{tasks_refusal}
-use Rattle.task.proofs.Refusing.{tasks_fine}
+use Rattle.task.proofs.Refusing.{Fine, tasks_fine}
 use Rattle.task.proofs.Hyperperiods.{hyperperiod_next, hyperperiod_grows}
 
 fold_on : (l : List Task) (m : ℕ) → fold (λ m (τ : Task). max m τ.offset) m l ≡ max m (latest l)
@@ -19,15 +22,39 @@ fold_on (τ ∷ l) m = omega (arith, fold_on l (max m τ.offset))
 pub latest_fold : (l : List Task) → fold (λ m (τ : Task). max m τ.offset) 0 l ≡ latest l
 latest_fold l = omega (arith, fold_on l 0)
 
-module _ (l : List Task) (ok : tasks_refusal Wide 0 l ≡ sound) where
-  -- what a task wants in H instants is no more than H
-  pub want_few : (H i : ℕ) → i < length l → want l H i ≤ H
-  want_few H i b =
-      let f = tasks_fine Wide 0 l ok i b in
-      let e : (task l i).run ≤ (task l i).period = omega (arith, f.fits, f.within) in
-      omega (arith, mul-le-mul_right (turns l H i) e, mul-div-le H (task l i).period)
+-- what a task wants in H instants
+abbrev pub wanted : ℕ → Task → ℕ
+wanted H τ = τ.run * (H / τ.period)
 
-  pub live : (i : ℕ) → i < length l → 0 < (task l i).period
+-- L is the sum of that over the list
+pub load_sum : (l : List Task) (H : ℕ) → sum_by (wanted H) l ≡ load l H
+load_sum l H = ap (sum_by (wanted H)) (sym (take_all (length l) l (omega arith))) ∙ first (length l) (omega arith)
+  where
+    first : (n : ℕ) → n ≤ length l → sum_by (wanted H) (take n l) ≡ sum (want l H) n
+    first zero h = refl
+    first (suc n) h = rw (← add-one n) (omega (arith, sum_by_more (wanted H) l n nobody (omega arith), first n (omega arith)))
+
+wants_few : (H : ℕ) (τ : Task) → Fine τ → wanted H τ ≤ H
+wants_few H τ f =
+    let e : τ.run ≤ τ.period = omega (arith, f.fits, f.within) in
+    omega (arith, mul-le-mul_right (H / τ.period) e, mul-div-le H τ.period)
+
+module _ (l : List Task) (ok : tasks_refusal Wide 0 l ≡ sound) where
+  -- a task that is read off the list has a period, and wants no more than H in H instants
+  pub read_few : (H : ℕ) (τ : Task) (i : ℕ) → i < length l → τ ≡ get_or l i τ → (0 < τ.period) × (wanted H τ ≤ H)
+  read_few H τ i b e =
+      let f : Fine τ = rw (e ∙ get_or_default l i τ nobody b) (tasks_fine Wide 0 l ok i b) in
+      (f.live, wants_few H τ f)
+
+  -- so L is no more than H for each task
+  pub load_few : (H : ℕ) → load l H ≤ H * length l
+  load_few H = first (length l) (omega arith)
+    where
+      first : (n : ℕ) → n ≤ length l → sum (want l H) n ≤ H * n
+      first zero h = omega arith
+      first (suc n) h = omega (arith, first n (omega arith), wants_few H (task l n) (tasks_fine Wide 0 l ok n (omega arith)))
+
+  live : (i : ℕ) → i < length l → 0 < (task l i).period
   live i b = (tasks_fine Wide 0 l ok i b).live
 
   -- The fold of the periods, stopped at a limit: h is what the first i periods give, and k what period i makes of it.

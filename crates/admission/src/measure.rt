@@ -37,9 +37,8 @@ pub(crate) fn load(tasks: &[Task], whole: usize) -> usize
     requires limited { whole ≤ longest_hyperperiod }
     ensures { result ≡ load tasks.now whole }
 {
-    let mut slots: usize = 0;
-    for task in tasks {
-        slots += task.run * (whole / task.period);
-    }
-    slots
+    tasks
+        .iter()
+        .map(|task| task.run * (whole / task.period))
+        .sum()
 }

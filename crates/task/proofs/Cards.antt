@@ -57,8 +57,3 @@ nine_or_wide card l startup cycle =
 pub not_nine : (f g : Finding) → Nine f g → f ≡ sound → f ≡ g
 not_nine f g (inl x) e = let z : refused (number_of Timer) x.0 ≡ sound = cc (x.1, e) in absurd (not_sound z)
 not_nine f g (inr h) e = h
-
--- where the tasks by themselves are found alike, so is the list
-pub same_list : (card : Card) (l : List Task) (startup cycle : ℕ) → tasks_refusal card 0 l ≡ tasks_refusal Wide 0 l →
-    first_refusal card l startup cycle ≡ first_refusal Wide l startup cycle
-same_list card l startup cycle e = rw e refl

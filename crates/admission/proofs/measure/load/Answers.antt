@@ -1,19 +1,31 @@
--- `measure::load` meets its contract: what the next task wants is no more than `whole`.
-use Rattle.std.proofs.Common.{add-one, arith}
-use Rattle.admission.proofs.Listed.{want_few, live}
+-- `measure::load` meets its contract: no task wants more than `whole`, so the sum fits.
+use Rattle.std.proofs.Common.{◌∙◌, length, rules, tests, arith}
+use Rattle.std.proofs.lemmas.Iterator.{YieldsList-from_slice, YieldsList-from_map}
+use Rattle.std.proofs.lemmas.Iterator.Consumers.{sum_by_from_yields_List, fits_by_from_yields_list}
+use Rattle.std.proofs.lemmas.Iterator.Adapters.{serves_from_places}
+use native.Mathlib.Nat.{mul-le-mul_right}
+use Rattle.admission.proofs.Listed.{wanted, load_sum, read_few, load_few}
 use Rattle.admission.proofs.measure.load.Goals as goal
 
-pub nonzero_div-slots : goal.nonzero_div-slots
-nonzero_div-slots c = live c.args.tasks.now c.requires.no_refusal c.loop-task.task-index (omega arith)
-
-pub overflow_mul-slots : goal.overflow_mul-slots
-overflow_mul-slots c = omega (arith, want_few c.args.tasks.now c.requires.no_refusal c.args.whole c.loop-task.task-index (omega arith))
-
-pub overflow_add-slots : goal.overflow_add-slots
-overflow_add-slots c = omega (arith, want_few c.args.tasks.now c.requires.no_refusal c.args.whole c.loop-task.task-index (omega arith))
-
-pub loop-task-preserved : goal.loop-task-preserved
-loop-task-preserved c = (
-  omega (arith, want_few c.args.tasks.now c.requires.no_refusal c.args.whole c.loop-task.task-index (omega arith)),
-  rw add-one (omega arith),
+pub sum-requires-clause-can : goal.sum-requires-clause-can
+sum-requires-clause-can c = (
+  tt,
+  serves_from_places (YieldsList-from_slice c.args.tasks.now cc) (λ x q k. search rules)
+      (λ x i b e. let f = read_few c.args.tasks.now c.requires.no_refusal c.map.result.f.0.now x.now i b e in search rules),
 )
+
+pub sum-requires-clause-fits : goal.sum-requires-clause-fits
+sum-requires-clause-fits c =
+    let l = c.args.tasks.now in
+    let H = c.args.whole in
+    fits_by_from_yields_list (wanted H) l c.map.result _
+    (YieldsList-from_map _ (wanted H) (YieldsList-from_slice l cc) c.map.ensures.closure (λ x b q k. search (rules, tests)))
+    (omega (arith, load_sum l H, load_few l c.requires.no_refusal H, mul-le-mul_right (length l) c.requires.limited))
+
+pub returns : goal.returns
+returns c =
+    let l = c.args.tasks.now in
+    let H = c.args.whole in
+    sum_by_from_yields_List (wanted H) l c.map.result _ c.sum.ensures.ran
+    (YieldsList-from_map _ (wanted H) (YieldsList-from_slice l cc) c.map.ensures.closure (λ x b q k. search (rules, tests)))
+    ∙ load_sum l H
