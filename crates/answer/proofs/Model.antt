@@ -15,7 +15,7 @@ use Rattle.schedule.specs.Job.{Miss, FirstMiss}
 use Rattle.schedule.specs.Endless.{endless}
 use Rattle.schedule.proofs.Schedule.{endless_never}
 use Rattle.answer.specs.Answers.{Row, refused, overloaded, missed, feasible}
-use Rattle.refusal.specs.Refusals.{Finding, sound, refused as refusedBy}
+use Rattle.refusal.specs.Refusals.{Finding, sound, refused as refused_by}
 use Rattle.task.specs.Checks.{first_refusal}
 use Rattle.answer.specs.Tables.{filled, plan_of}
 use Rattle.answer.specs.Promise.{Permitted}
@@ -52,7 +52,7 @@ module _ (p : Policy) (l : List Task) (startup cycle : List ℕ) where
 
   -- by the first refusal
   abbrev by_refusal : Finding → Outcome
-  by_refusal (refusedBy n i) = record { said = refused n i; startup = startup; cycle = cycle }
+  by_refusal (refused_by n i) = record { said = refused n i; startup = startup; cycle = cycle }
   by_refusal sound = by_load (ltb (hyperperiod l) (load l (hyperperiod l)))
 
 abbrev pub model : Card → Policy → List Task → List ℕ → List ℕ → Outcome
@@ -102,7 +102,7 @@ module _ (card : Card) (p : Policy) (l : List Task) (startup cycle : List ℕ) w
   load_permitted e false f = search_permitted e (ltb-false (hyperperiod l) (load l (hyperperiod l)) f)
 
   refusal_permitted : (f : Finding) → first_refusal card l (length startup) (length cycle) ≡ f → Allowed (by_refusal p l startup cycle f)
-  refusal_permitted (refusedBy n i) e = record { is_first_refusal = e; buffers = record { startup_kept = refl; cycle_kept = refl } }
+  refusal_permitted (refused_by n i) e = record { is_first_refusal = e; buffers = record { startup_kept = refl; cycle_kept = refl } }
   refusal_permitted sound e = load_permitted e (ltb (hyperperiod l) (load l (hyperperiod l))) refl
 
   pub model_permitted :

@@ -14,7 +14,7 @@ use Rattle.answer.specs.declared.Answer.{Answer}
 use Rattle.answer.specs.declared.Answer.TheVariants.{Refused, Overloaded, Missed, Feasible}
 use Rattle.refusal.proofs.Pinned.{refusal_of, number_back}
 use Rattle.answer.specs.Answers.{row, Row, refused, overloaded, missed, feasible}
-use Rattle.refusal.specs.Refusals.{sound, refused as refusedBy}
+use Rattle.refusal.specs.Refusals.{sound, refused as refused_by}
 use Rattle.task.specs.Checks.{first_refusal}
 use Rattle.answer.specs.Promise.{Unchanged, Written, Permitted, Promised}
 
@@ -60,7 +60,7 @@ module _ (card : Card) (p : Policy) (l : List Task) (startup cycle : List ℕ) w
 
   -- a list is refused, or it is not
   apart : {n i : ℕ} {A : Type 0} →
-      first_refusal card l (length startup) (length cycle) ≡ refusedBy n i → first_refusal card l (length startup) (length cycle) ≡ sound → A
+      first_refusal card l (length startup) (length cycle) ≡ refused_by n i → first_refusal card l (length startup) (length cycle) ≡ sound → A
   apart e f = let z : ◌≡◌ {A = ℕ} 0 1 = cc in absurd (omega arith)
 
   pub pinned : (r r' : Row) (s c s' c' : List ℕ) → Permitted card p l startup cycle r s c → Permitted card p l startup cycle r' s' c' →

@@ -10,7 +10,7 @@ use Rattle.schedule.specs.Endless.{endless}
 use Rattle.answer.specs.declared.Plan.{Plan}
 use Rattle.answer.specs.declared.Answer.{Answer}
 use Rattle.answer.specs.Answers.{Row, refused, overloaded, missed, feasible, row}
-use Rattle.refusal.specs.Refusals.{sound, refused as refusedBy}
+use Rattle.refusal.specs.Refusals.{sound, refused as refused_by}
 use Rattle.task.specs.Checks.{first_refusal}
 use Rattle.answer.specs.Tables.{filled, plan_of}
 
@@ -27,7 +27,7 @@ module _ (p : Policy) (l : List Task) (startup cycle : List ℕ) where
 
 module _ (card : Card) (p : Policy) (l : List Task) (startup cycle : List ℕ) where
   pub record IsRefused (number i : ℕ) (s c : List ℕ) : Type 0 where
-    pub is_first_refusal : first_refusal card l (length startup) (length cycle) ≡ refusedBy number i
+    pub is_first_refusal : first_refusal card l (length startup) (length cycle) ≡ refused_by number i
     pub buffers : Unchanged startup cycle s c
 
   pub record IsOverloaded (a b : ℕ) (s c : List ℕ) : Type 0 where

@@ -11,7 +11,7 @@ use refusal::Refusal;
 pub const IDLE: u8 = 255;
 
 // What is said of a feasible list: M, H and L, and the counts of the two parts.
-#[derive(Clone, Copy)]
+#[derive(Clone, Copy, Debug, PartialEq, Eq)]
 pub struct Plan {
     pub latest: usize,
     pub hyperperiod: usize,
@@ -22,7 +22,7 @@ pub struct Plan {
     pub cycle_preemptions: usize,
 }
 
-#[derive(Clone, Copy)]
+#[derive(Clone, Copy, Debug, PartialEq, Eq)]
 pub enum Answer {
     Refused(Refusal, usize),
     Overloaded { load: usize, hyperperiod: usize },

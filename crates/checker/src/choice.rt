@@ -1,40 +1,46 @@
 // Which task the next slot goes to.
-ghost use Rattle.std.specs.Prelude.{◌≡◌, ℕ, ◌≤◌, ◌<◌};
-ghost use Rattle.task.specs.Limits.{largest, most_tasks};
+ghost use Rattle.std.specs.Prelude.{◌≡◌, ℕ, ◌<◌, length};
+ghost use Rattle.task.specs.Limits.{largest};
 ghost use Rattle.schedule.specs.declared.Policy.TheVariants.{ListOrder};
-ghost use Rattle.state.specs.State.{at, First, Picked};
+ghost use Rattle.state.specs.State.{job_of, IsReady, Found, First, Picked};
 
-use crate::part::pick;
+use crate::engine::Engine;
 use schedule::Policy;
-use task::Task;
+use state::Job;
 
-// What `pick` finds. Under list order the first ready task has the least key, so nothing after it is looked at.
-pub(crate) fn choose(
-    policy: Policy,
-    owed: &[usize; Task::MOST],
-    keys: &[usize; Task::MOST],
-    n: usize,
-) -> usize
-    requires few { n ≤ most_tasks }
-    requires keys_small { (i : ℕ) → i < n → 0 < at owed.now i → at keys.now i < largest }
-    requires keys_listed { policy ≡ ListOrder → (i : ℕ) → i < n → 0 < at owed.now i → at keys.now i ≡ i }
-    ensures { Picked owed.now keys.now n result }
-{
-    if let Policy::ListOrder = policy {
-        return first_ready(owed, n);
+impl Engine<'_> {
+    // What `pick` finds. Under list order the first ready task has the least key, so nothing after it is looked at.
+    pub(crate) fn choose(self, jobs: &[Job]) -> Option<usize>
+        requires keys_small { (i : ℕ) → i < length jobs.now → IsReady (job_of jobs.now i) → (job_of jobs.now i).key < largest }
+        requires keys_listed { self.policy ≡ ListOrder → (i : ℕ) → i < length jobs.now → IsReady (job_of jobs.now i) → (job_of jobs.now i).key ≡ i }
+        ensures { Found (length jobs.now) result (Picked jobs.now (length jobs.now)) }
+    {
+        if let Policy::ListOrder = self.policy {
+            return first_ready(jobs);
+        }
+        pick(jobs)
     }
-    pick(owed, keys, n)
 }
 
-// The first task that slots are owed to; n where there is none.
-fn first_ready(owed: &[usize; Task::MOST], n: usize) -> usize
-    requires { n ≤ most_tasks }
-    ensures { First (λ i. 0 < at owed.now i) n result }
+// The first task that slots are owed to.
+fn first_ready(jobs: &[Job]) -> Option<usize>
+    ensures { Found (length jobs.now) result (First (λ i. IsReady (job_of jobs.now i)) (length jobs.now)) }
 {
-    for i in 0..n {
-        if owed[i] != 0 {
-            return i;
+    jobs.iter().position(|job| job.owed != 0)
+}
+
+// The task whose job goes first: the least key, the lower number where keys are equal; none where no job is ready.
+fn pick(jobs: &[Job]) -> Option<usize>
+    requires keys_small { (i : ℕ) → i < length jobs.now → IsReady (job_of jobs.now i) → (job_of jobs.now i).key < largest }
+    ensures { Found (length jobs.now) result (Picked jobs.now (length jobs.now)) }
+{
+    let mut best = None;
+    let mut least = usize::MAX;
+    for (i, job) in jobs.iter().enumerate() {
+        if job.owed != 0 && job.key < least {
+            best = Some(i);
+            least = job.key;
         }
     }
-    n
+    best
 }

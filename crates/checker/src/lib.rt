@@ -2,8 +2,8 @@
 #![tactic(auto)]
 
 mod choice;
+mod engine;
 mod judge;
-mod part;
 mod release;
 mod start;
 mod step;
@@ -30,7 +30,5 @@ pub fn check(
 ) -> Answer
     ensures { (l : List Task) → Holds list l → Promised card policy l startup.old cycle.old result startup.new cycle.new }
 {
-    let items = list.items;
-    let count = list.count;
-    judge::checked(items, count, card, policy, startup, cycle)
+    judge::checked(list.items, list.count, card, policy, startup, cycle)
 }

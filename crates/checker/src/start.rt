@@ -1,53 +1,42 @@
-// How the engine starts: the list spread over arrays, and the first instant.
-ghost use Rattle.std.specs.Prelude.{List, ◌≤◌};
-ghost use Rattle.task.specs.declared.Task.{Task};
-ghost use Rattle.task.specs.Limits.{most_tasks};
-ghost use Rattle.state.specs.State.{Sized, Spread};
-ghost use Rattle.state.specs.Engine.{Loaded, Fresh, Instant};
+// How the engine starts: nothing is owed, and the first instant.
+ghost use Rattle.std.specs.Prelude.{◌≡◌, length};
+ghost use Rattle.state.specs.State.{Found};
+ghost use Rattle.state.specs.Engine.{NotRefused, Fresh, Instant};
 
-use crate::choice::choose;
-use crate::release::arrive;
-use schedule::Policy;
-use task::Task;
+use crate::engine::Engine;
+use crate::step::Now;
+use state::Job;
 
-// The list is unpacked once: a slot then reads plain numbers, and copies no struct.
-pub(crate) fn spread(
-    items: [Task; Task::MOST],
-    n: usize,
-    run: &mut [usize; Task::MOST],
-    deadline: &mut [usize; Task::MOST],
-    period: &mut [usize; Task::MOST],
-    next: &mut [usize; Task::MOST],
-)
-    requires few { n ≤ most_tasks }
-    requires sized { Sized run.old deadline.old period.old next.old }
-    ensures { Spread items n run.new deadline.new period.new next.new }
-{
-    for i in 0..n {
-        let task = items[i];
-        run[i] = task.run;
-        deadline[i] = task.deadline;
-        period[i] = task.period;
-        next[i] = task.offset;
+impl Engine<'_> {
+    // The releases at 0, and the task that slot 0 goes to.
+    pub(crate) fn begin(self, jobs: &mut [Job]) -> Now
+        requires not_refused { NotRefused self.tasks.now }
+        requires sized { length jobs.old ≡ length self.tasks.now }
+        ensures chosen { Found (length self.entry.tasks.now) result.chosen (Instant self.entry.policy self.entry.tasks.now 0 jobs.new) }
+        ensures counts { (result.idle ≡ 0) × (result.preemptions ≡ 0) × (result.instant ≡ 0) }
+    {
+        self.refresh(jobs);
+        self.arrive(jobs, 0);
+        Now {
+            chosen: self.choose(jobs),
+            idle: 0,
+            preemptions: 0,
+            instant: 0,
+        }
     }
-}
 
-// The releases at 0, and the task that slot 0 goes to.
-pub(crate) fn begin(
-    policy: Policy,
-    n: usize,
-    run: &[usize; Task::MOST],
-    deadline: &[usize; Task::MOST],
-    period: &[usize; Task::MOST],
-    owed: &mut [usize; Task::MOST],
-    next: &mut [usize; Task::MOST],
-    dues: &mut [usize; Task::MOST],
-    keys: &mut [usize; Task::MOST],
-) -> usize
-    requires loaded { (l : List Task) × Loaded l n run.now deadline.now period.now × Fresh l owed.old next.old }
-    requires sized { Sized owed.old next.old dues.old keys.old }
-    ensures { (l : List Task) → Loaded l n run.now deadline.now period.now → Fresh l owed.old next.old → Instant policy l 0 owed.new next.new dues.new keys.new result }
-{
-    arrive(policy, n, 0, run, deadline, period, owed, next, dues, keys);
-    choose(policy, owed, keys, n)
+    // Nothing is owed to a task, and its first release is next.
+    fn refresh(self, jobs: &mut [Job])
+        requires { length jobs.old ≡ length self.tasks.now }
+        ensures { Fresh self.entry.tasks.now jobs.new }
+    {
+        for (i, job) in jobs.iter_mut().enumerate() {
+            *job = Job {
+                owed: 0,
+                next: self.tasks[i].offset,
+                due: 0,
+                key: 0,
+            };
+        }
+    }
 }

@@ -1,96 +1,99 @@
 // One slot: it is given and written, and the next instant is reached.
-ghost use Rattle.std.specs.Prelude.{◌≡◌, not, ◌&&◌, List, ◌+◌, ◌≤◌, ◌<◌, eqb, ltb, length};
-ghost use Rattle.task.specs.declared.Task.{Task};
+ghost use Rattle.std.specs.Prelude.{◌≡◌, ℕ, IfSome, MatchResult, unwrap_or, not, ◌&&◌, ◌+◌, ◌<◌, eqb, ltb, length};
 ghost use Rattle.task.specs.Limits.{most_tasks};
-ghost use Rattle.schedule.specs.Job.{one_if};
-ghost use Rattle.state.specs.Engine.{plenty, Loaded, Instant, Put, Stepped};
+ghost use Rattle.schedule.specs.Job.{one_if, FirstMiss};
+ghost use Rattle.schedule.specs.Endless.{endless};
+ghost use Rattle.answer.specs.Tables.{byte_of};
+ghost use Rattle.state.specs.State.{job_of, IsReady, Found, Served};
+ghost use Rattle.state.specs.Engine.{plenty, Instant, Put, Stepped};
 
-use crate::choice::choose;
-use crate::part::serve;
-use crate::release::arrive;
+use crate::engine::Engine;
 use answer::IDLE;
-use schedule::Policy;
-use task::Task;
+use state::Job;
 
-// What goes from slot to slot beside the arrays. `missed` is the number of tasks where no task misses at `instant`.
-#[derive(Clone, Copy)]
+// What goes from slot to slot beside the jobs: the instant, the task that its slot goes to, and what was counted.
+#[derive(Clone, Copy, Debug, PartialEq, Eq)]
 pub(crate) struct Now {
-    pub chosen: usize,
-    pub idle: usize,
-    pub preemptions: usize,
-    pub missed: usize,
-    pub instant: usize,
+    pub(crate) chosen: Option<usize>,
+    pub(crate) idle: usize,
+    pub(crate) preemptions: usize,
+    pub(crate) instant: usize,
 }
 
-pub(crate) fn step(
-    policy: Policy,
-    n: usize,
-    t: usize,
-    run: &[usize; Task::MOST],
-    deadline: &[usize; Task::MOST],
-    period: &[usize; Task::MOST],
-    owed: &mut [usize; Task::MOST],
-    next: &mut [usize; Task::MOST],
-    dues: &mut [usize; Task::MOST],
-    keys: &mut [usize; Task::MOST],
-    table: &mut [u8],
-    place: usize,
-    w: Now,
-) -> Now
-    requires loaded { (l : List Task) × Loaded l n run.now deadline.now period.now × Instant policy l t owed.old next.old dues.old keys.old w.chosen }
-    requires bounds { (t + 1 < plenty) × (w.idle < plenty) × (w.preemptions < plenty) × (place < length table.old) }
-    ensures slot { (l : List Task) → Loaded l n run.now deadline.now period.now → Instant policy l t owed.old next.old dues.old keys.old w.chosen → Stepped policy l t place table.old table.new w.idle result.idle w.preemptions result.preemptions result.missed owed.new next.new dues.new keys.new result.chosen }
-    ensures instant { result.instant ≡ t + 1 }
-{
-    let chosen = w.chosen;
-    let idle = put(table, place, n, chosen, w.idle);
-    let running = serve(owed, n, chosen);
-    let instant = t + 1;
-    let missed = arrive(
-        policy, n, instant, run, deadline, period, owed, next, dues, keys,
-    );
-    if missed < n {
-        return Now {
+// The first miss.
+#[derive(Clone, Copy, Debug, PartialEq, Eq)]
+pub(crate) struct Missed {
+    pub(crate) task: usize,
+    pub(crate) at: usize,
+}
+
+impl Engine<'_> {
+    pub(crate) fn step(self, jobs: &mut [Job], entry: &mut u8, now: Now) -> Result<Now, Missed>
+        requires instant { Found (length self.tasks.now) now.chosen (Instant self.policy self.tasks.now now.instant jobs.old) }
+        requires bounds { (now.instant + 1 < plenty) × (now.idle < plenty) × (now.preemptions < plenty) }
+        ensures written { entry.new ≡ byte_of (endless self.entry.policy self.entry.tasks.now now.instant) }
+        ensures slot { MatchResult result (λ r. Found (length self.entry.tasks.now) r.chosen (Stepped self.entry.policy self.entry.tasks.now now.instant now.idle r.idle now.preemptions r.preemptions jobs.new) × (r.instant ≡ now.instant + 1)) (λ m. FirstMiss self.entry.tasks.now (endless self.entry.policy self.entry.tasks.now) m.task m.at × (m.at ≡ now.instant + 1)) }
+    {
+        let idle = put(entry, now.chosen, now.idle);
+        let running = serve(jobs, now.chosen);
+        let instant = now.instant + 1;
+        if let Some(task) = self.arrive(jobs, instant) {
+            return Err(Missed { task, at: instant });
+        }
+        let chosen = self.choose(jobs);
+        let preemptions = switched(running, chosen, now.preemptions);
+        Ok(Now {
             chosen,
             idle,
-            preemptions: w.preemptions,
-            missed,
+            preemptions,
             instant,
-        };
-    }
-    let following = choose(policy, owed, keys, n);
-    let preemptions = switched(n, running, following, w.preemptions);
-    Now {
-        chosen: following,
-        idle,
-        preemptions,
-        missed: n,
-        instant,
+        })
     }
 }
 
-fn put(table: &mut [u8], place: usize, n: usize, chosen: usize, idle: usize) -> usize
-    requires { (n ≤ most_tasks) × (place < length table.old) × (idle < plenty) }
-    ensures { Put n chosen place table.old table.new idle result }
+// The entry of a slot, and how many were idle with it.
+fn put(entry: &mut u8, chosen: Option<usize>, idle: usize) -> usize
+    requires { IfSome chosen (λ i. i < most_tasks) × (idle < plenty) }
+    ensures { (n : ℕ) → IfSome chosen (λ i. i < n) → Put n (unwrap_or chosen n) entry.new idle result }
 {
-    if chosen < n {
-        table[place] = chosen as u8;
-        return idle;
+    match chosen {
+        Some(i) => {
+            *entry = i as u8;
+            idle
+        }
+        None => {
+            *entry = IDLE;
+            idle + 1
+        }
     }
-    table[place] = IDLE;
-    idle + 1
 }
 
-// One preemption more where the running job is not done and another task is next.
-fn switched(n: usize, running: usize, following: usize, preemptions: usize) -> usize
+// One slot less is owed to the chosen task. It is handed back where its job is not yet done.
+fn serve(jobs: &mut [Job], chosen: Option<usize>) -> Option<usize>
+    requires { IfSome chosen (λ i. (i < length jobs.old) × IsReady (job_of jobs.old i)) }
+    ensures { Found (length jobs.old) result (Served (length jobs.old) (unwrap_or chosen (length jobs.old)) jobs.old jobs.new) }
+{
+    let i = chosen?;
+    let left = jobs[i].owed - 1;
+    jobs[i].owed = left;
+    if left == 0 {
+        return None;
+    }
+    chosen
+}
+
+// One preemption more where the running job is not done and another task is next. As `running != following` it is slower.
+fn switched(running: Option<usize>, following: Option<usize>, preemptions: usize) -> usize
     requires { preemptions < plenty }
-    ensures { result ≡ preemptions + one_if (ltb running n && not (eqb running following)) }
+    ensures { (n : ℕ) → IfSome running (λ i. i < n) → IfSome following (λ i. i < n) → result ≡ preemptions + one_if (ltb (unwrap_or running n) n && not (eqb (unwrap_or running n) (unwrap_or following n))) }
 {
-    if n <= running {
+    let Some(i) = running else {
         return preemptions;
-    }
-    if running == following {
-        return preemptions;
+    };
+    if let Some(j) = following {
+        if i == j {
+            return preemptions;
+        }
     }
     preemptions + 1
 }

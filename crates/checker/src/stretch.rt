@@ -1,58 +1,29 @@
 // A stretch of slots, written to one table.
-ghost use Rattle.std.specs.Prelude.{List, ◌+◌, ◌≤◌, ◌<◌, length};
-ghost use Rattle.task.specs.declared.Task.{Task};
-ghost use Rattle.state.specs.Engine.{plenty, Loaded, Instant, Stretched};
+ghost use Rattle.std.specs.Prelude.{◌≡◌, MatchResult, ◌+◌, ◌<◌, length};
+ghost use Rattle.state.specs.State.{Found};
+ghost use Rattle.state.specs.Engine.{plenty, Instant, Stretched, CutOff};
 
-use crate::step::{Now, step};
-use schedule::Policy;
-use task::Task;
+use crate::engine::Engine;
+use crate::step::{Missed, Now};
+use state::Job;
 
-// The `count` slots from `from` on, or those before the first miss.
-pub(crate) fn stretch(
-    policy: Policy,
-    n: usize,
-    from: usize,
-    count: usize,
-    run: &[usize; Task::MOST],
-    deadline: &[usize; Task::MOST],
-    period: &[usize; Task::MOST],
-    owed: &mut [usize; Task::MOST],
-    next: &mut [usize; Task::MOST],
-    dues: &mut [usize; Task::MOST],
-    keys: &mut [usize; Task::MOST],
-    table: &mut [u8],
-    chosen: usize,
-) -> Now
-    requires loaded { (l : List Task) × Loaded l n run.now deadline.now period.now × Instant policy l from owed.old next.old dues.old keys.old chosen }
-    requires room { (from + count < plenty) × (count ≤ length table.old) }
-    ensures { (l : List Task) → Loaded l n run.now deadline.now period.now → Instant policy l from owed.old next.old dues.old keys.old chosen → Stretched policy l from count table.old table.new result.idle result.preemptions result.missed result.instant owed.new next.new dues.new keys.new result.chosen }
-{
-    let mut w = Now {
-        chosen,
-        idle: 0,
-        preemptions: 0,
-        missed: n,
-        instant: from,
-    };
-    for k in 0..count {
-        w = step(
-            policy,
-            n,
-            from + k,
-            run,
-            deadline,
-            period,
-            owed,
-            next,
-            dues,
-            keys,
-            table,
-            k,
-            w,
-        );
-        if w.missed < n {
-            return w;
+impl Engine<'_> {
+    // A slot for each entry of the table, or those before the first miss.
+    pub(crate) fn stretch(
+        self,
+        jobs: &mut [Job],
+        table: &mut [u8],
+        start: Now,
+    ) -> Result<Now, Missed>
+        requires instant { Found (length self.tasks.now) start.chosen (Instant self.policy self.tasks.now start.instant jobs.old) }
+        requires counts { (start.idle ≡ 0) × (start.preemptions ≡ 0) }
+        requires room { start.instant + length table.old < plenty }
+        ensures { MatchResult result (λ r. Found (length self.entry.tasks.now) r.chosen (Stretched self.entry.policy self.entry.tasks.now start.instant (length table.old) table.old table.new r.idle r.preemptions jobs.new) × (r.instant ≡ start.instant + length table.old)) (λ m. CutOff self.entry.policy self.entry.tasks.now start.instant (length table.old) table.old table.new m.task m.at) }
+    {
+        let mut now = start;
+        for entry in table.iter_mut() {
+            now = self.step(jobs, entry, now)?;
         }
+        Ok(now)
     }
-    w
 }

@@ -12,7 +12,7 @@ pub fn lookup<'a>(startup: &'a [u8], cycle: &'a [u8], t: usize) -> &'a [u8]
         return &startup[t..];
     }
     // Nothing is divided by the length of an empty cycle: it has no slot, and is handed back as it is.
-    if cycle.len() == 0 {
+    if cycle.is_empty() {
         return cycle;
     }
     let i = (t - startup.len()) % cycle.len();

@@ -6,4 +6,5 @@ pub mod Releasing
 pub mod Stepping
 pub mod Stretching
 pub mod Verdict
-pub mod Spreading
+pub mod Starting
+pub mod Finding

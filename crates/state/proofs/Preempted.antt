@@ -22,35 +22,36 @@ use Rattle.schedule.proofs.Keys.{ahead_of}
 use Rattle.schedule.proofs.Jobs.{short_iff}
 use Rattle.schedule.proofs.Schedule.{endless_slots}
 use Rattle.answer.specs.Tables.{another, preempts}
-use Rattle.state.specs.State.{at, present, KeptAt, Served}
+use Rattle.state.specs.declared.Job.{Job}
+use Rattle.state.specs.State.{job_of, present, KeptAt, Served}
 use Rattle.state.proofs.Moves.{had_next, same_job}
 
-module _ (p : Policy) {l : List Task} {H : ℕ} (w : Sound l H) (t : ℕ) (owed next dues keys owed' : List ℕ) (r : ℕ)
-    (x : KeptAt p l t owed next dues keys) (sv : Served (length l) (pick_at p l t) owed owed' r) where
+module _ (p : Policy) {l : List Task} {H : ℕ} (w : Sound l H) (t : ℕ) (jobs jobs' : List Job) (r : ℕ)
+    (x : KeptAt p l t jobs) (sv : Served (length l) (pick_at p l t) jobs jobs' r) where
   R : Run l (ahead_of p l) (had_by p l) (pick_at p l)
   R = endless_run p l
 
   -- the job of slot t is short of its run time at t + 1 where slots are still owed to its task, and done where none are
-  short : (b : pick_at p l t < length l) → 0 < at owed' (pick_at p l t) →
+  short : (b : pick_at p l t < length l) → 0 < (job_of jobs' (pick_at p l t)).owed →
       had (endless p l) (pick_at p l t) (present p l t (pick_at p l t)) (suc t) < (task l (pick_at p l t)).run
   short b h =
       let c = pick_at p l t in
       (short_iff p w R (endless_slots p l) c (present p l t c) (suc t) b).1
       (omega (
         arith,
-        had_next p w t owed next dues keys owed' r x sv c b,
+        had_next p w t jobs jobs' r x sv c b,
         x.owed_is c b,
         ap (λ a. (task l c).run * a) (x.working c b (omega (arith, sv.each c b))).last,
       ))
 
-  whole : (b : pick_at p l t < length l) → at owed' (pick_at p l t) ≡ 0 →
+  whole : (b : pick_at p l t < length l) → (job_of jobs' (pick_at p l t)).owed ≡ 0 →
       (task l (pick_at p l t)).run ≤ had (endless p l) (pick_at p l t) (present p l t (pick_at p l t)) (suc t)
   whole b h = elim (dec_lt (had (endless p l) c (present p l t c) (suc t)) (task l c).run) [
     | no q ↦ omega arith
     | yes q ↦ absurd (omega (
       arith,
       (short_iff p w R (endless_slots p l) c (present p l t c) (suc t) b).0 q,
-      had_next p w t owed next dues keys owed' r x sv c b,
+      had_next p w t jobs jobs' r x sv c b,
       x.owed_is c b,
       ap (λ a. (task l c).run * a) (x.working c b (omega (arith, sv.each c b, one_eq c c refl))).last,
     ))
@@ -60,12 +61,12 @@ module _ (p : Policy) {l : List Task} {H : ℕ} (w : Sound l H) (t : ℕ) (owed 
       c = pick_at p l t
 
   -- an unfinished job waits for the next slot, so that slot is not idle
-  goes_on : pick_at p l t < length l → 0 < at owed' (pick_at p l t) → pick_at p l (suc t) < length l
+  goes_on : pick_at p l t < length l → 0 < (job_of jobs' (pick_at p l t)).owed → pick_at p l (suc t) < length l
   goes_on b h = elim (dec_lt (pick_at p l (suc t)) (length l)) [
     | yes q ↦ q
     | no q ↦ absurd (R.idle (suc t) c (omega arith) b (omega (
       arith,
-      had_next p w t owed next dues keys owed' r x sv c b,
+      had_next p w t jobs jobs' r x sv c b,
       x.owed_is c b,
       mul-le-mul_left (task l c).run (up_to_mono (task l c).offset (task l c).period (w.live c b) t (suc t) (omega arith)),
     )))
@@ -75,13 +76,13 @@ module _ (p : Policy) {l : List Task} {H : ℕ} (w : Sound l H) (t : ℕ) (owed 
       c = pick_at p l t
 
   -- the next slot goes to another job exactly where it goes to another task
-  other : pick_at p l t < length l → 0 < at owed' (pick_at p l t) →
+  other : pick_at p l t < length l → 0 < (job_of jobs' (pick_at p l t)).owed →
       another (pick_at p l t) (present p l t (pick_at p l t)) (endless p l (suc t)) ≡ not (eqb (pick_at p l t) (pick_at p l (suc t)))
   other b h = rw ((endless_slots p l).busy (suc t) (goes_on b h)) (elim (ℕ_discrete c (pick_at p l (suc t))) [
     | yes e ↦ rw (
       eq-eqb c (pick_at p l (suc t)) e,
       eq-eqb (present p l t c) (present p l (suc t) (pick_at p l (suc t)))
-          (sym (same_job p w t owed next dues keys owed' r x sv c b h) ∙ ap (present p l (suc t)) e),
+          (sym (same_job p w t jobs jobs' r x sv c b h) ∙ ap (present p l (suc t)) e),
     )
     | no e ↦ rw (ne_eqb c (pick_at p l (suc t)) e)
   ])
@@ -90,9 +91,9 @@ module _ (p : Policy) {l : List Task} {H : ℕ} (w : Sound l H) (t : ℕ) (owed 
       c = pick_at p l t
 
   pub preempted : preempts l (endless p l) (suc t) ≡ (ltb r (length l) && not (eqb r (pick_at p l (suc t))))
-  preempted = go (dec_lt (pick_at p l t) (length l)) (dec_lt 0 (at owed' (pick_at p l t)))
+  preempted = go (dec_lt (pick_at p l t) (length l)) (dec_lt 0 ((job_of jobs' (pick_at p l t)).owed))
     where
-      go : Dec (pick_at p l t < length l) → Dec (0 < at owed' (pick_at p l t)) →
+      go : Dec (pick_at p l t < length l) → Dec (0 < (job_of jobs' (pick_at p l t)).owed) →
           preempts l (endless p l) (suc t) ≡ (ltb r (length l) && not (eqb r (pick_at p l (suc t))))
       go (no b) h =
           let e : r ≡ length l = sv.done (λ q. absurd (omega arith)) in
