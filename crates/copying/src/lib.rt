@@ -1,38 +1,29 @@
 // Bytes copied into a lent slice, as many as there are and as fit.
 #![tactic(auto)]
 
-ghost use Rattle.std.specs.Prelude.{◌≡◌, ◌++◌, ◌+◌, ◌-◌, min, length, take, drop, replicate};
+ghost use Rattle.std.specs.Prelude.{◌≡◌, ◌++◌, ◌+◌, ◌-◌, length, take, drop, replicate};
 
 // The bytes of src from `from` on, from place `at` of dst on; answers the place after them.
 pub fn fill(src: &[u8], from: usize, dst: &mut [u8], at: usize) -> usize
     ensures place { result ≡ at + length (take (length dst.old - at) (drop from src.now)) }
     ensures copied { dst.new ≡ take at dst.old ++ take (length dst.old - at) (drop from src.now) ++ drop result dst.old }
 {
-    if src.len() <= from {
+    let Some(rest) = src.get(from..) else {
+        return at;
+    };
+    if dst.len() < at {
         return at;
     }
-    if dst.len() <= at {
-        return at;
-    }
-    let n = least(src.len() - from, dst.len() - at);
-    dst[at..at + n].copy_from_slice(&src[from..from + n]);
+    let n = rest.len().min(dst.len() - at);
+    dst[at..at + n].copy_from_slice(&rest[..n]);
     at + n
-}
-
-fn least(a: usize, b: usize) -> usize
-    ensures { result ≡ min a b }
-{
-    if a < b { a } else { b }
 }
 
 // Zeros from place `at` on.
 pub fn zeros(dst: &mut [u8], at: usize)
     ensures { dst.new ≡ take at dst.old ++ replicate (length dst.old - at) 0 }
 {
-    if dst.len() <= at {
-        return;
-    }
-    for i in at..dst.len() {
-        dst[i] = 0;
+    if at < dst.len() {
+        dst[at..].fill(0);
     }
 }

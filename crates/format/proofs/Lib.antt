@@ -1,5 +1,5 @@
+pub mod FromBack
 pub mod Lists
-pub mod Either
 pub mod CutBack
 pub mod Carried
 pub mod PowerCut

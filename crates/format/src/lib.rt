@@ -28,34 +28,21 @@ pub const REST_AT: usize = 7;
 pub fn blocks_for(entries: usize) -> usize
     ensures { result ≡ blocks_for entries }
 {
-    let full = entries / CARRIED;
-    if entries % CARRIED == 0 {
-        full
-    } else {
-        full + 1
-    }
+    entries.div_ceil(CARRIED)
 }
 
 // How many bytes of a log are kept when it is cut back to just after its last trailer, or to nothing.
 pub fn kept(log: &[u8]) -> usize
     ensures { result ≡ length (kept log.now) }
 {
-    let mut n = log.len() / BLOCK;
-    while 0 < n {
-        if log[BLOCK * (n - 1)] == TRAILER {
-            return BLOCK * n;
-        }
-        n -= 1;
-    }
-    0
+    log.chunks_exact(BLOCK)
+        .rposition(|block| block[0] == TRAILER)
+        .map_or(0, |n| BLOCK * (n + 1))
 }
 
 // The same of the bytes that are used, all of them where the count is above their number.
 pub fn start(log: &[u8], used: usize) -> usize
     ensures { result ≡ length (kept (take used log.now)) }
 {
-    if used < log.len() {
-        return kept(&log[..used]);
-    }
-    kept(log)
+    kept(log.get(..used).unwrap_or(log))
 }

@@ -1,9 +1,9 @@
 -- The blocks of a plan, one after the other.
 use mathlib.Core.Path.{◌≡◌, sym, ◌∙◌, ap}
 use mathlib.Core.List.{List, ◌∷◌, ◌++◌, append_assoc, append-nil}
-use Prim.Native.Nat.{ℕ, zero, suc, ◌+◌, ◌-◌, ◌*◌, ◌≤◌}
+use Prim.Native.Nat.{ℕ, zero, suc, ◌+◌, ◌-◌, ◌*◌}
 use native.Mathlib.Omega.{arith}
-use lib.ListN.{length, take, drop, length-append, length-drop, drop_of_length-le}
+use lib.ListN.{take, drop}
 use lib.Seq.{take_at, drop_at, drop-drop}
 use Rattle.format.specs.Blocks.{padded, plan_blocks}
 use Rattle.format.proofs.Carried.{blocks_length}
@@ -23,9 +23,6 @@ module _ (entries out : List ℕ) where
   abbrev pub LaidBlocks : ℕ → List ℕ
   LaidBlocks n = plan_blocks n entries ++ drop (64 * n) out
 
-  pub laid_length : (n : ℕ) → 64 * n ≤ length out → length (LaidBlocks n) ≡ length out
-  laid_length n h = length-append (plan_blocks n entries) (drop (64 * n) out) ∙ omega (arith, blocks_length n entries, length-drop (64 * n) out)
-
   pub laid_more : (n : ℕ) (now block : List ℕ) → now ≡ LaidBlocks n → block ≡ 1 ∷ padded 63 (drop (63 * n) entries)
       → take (64 * n) now ++ (block ++ drop (64 * n + 64 - 64 * n) (drop (64 * n) now)) ≡ LaidBlocks (n + 1)
   laid_more n now block e b =
@@ -44,6 +41,3 @@ module _ (entries out : List ℕ) where
       )
       (sym (append_assoc (plan_blocks n entries) (1 ∷ padded 63 (drop (63 * n) entries)) (drop (64 * suc n) out))
       ∙ ap (λ (l : List ℕ). l ++ drop (64 * suc n) out) (sym (blocks_snoc n entries)))
-
-  pub laid_all : (n : ℕ) → 64 * n ≡ length out → LaidBlocks n ≡ plan_blocks n entries
-  laid_all n e = rw (drop_of_length-le out {i = 64 * n} (omega arith)) (append-nil (plan_blocks n entries))

@@ -1,27 +1,29 @@
--- The trailer, and the whole plan with it.
-use mathlib.Core.Path.{◌≡◌, ◌∙◌, ap}
-use mathlib.Core.List.{List, ◌∷◌, ◌++◌, append-nil}
-use Prim.Native.Nat.{ℕ, ◌-◌}
+-- The trailer.
+use mathlib.Core.Path.{◌≡◌}
+use mathlib.Core.List.{List, [], ◌∷◌, ◌++◌, append-nil}
+use Prim.Native.Nat.{ℕ, ◌+◌, ◌-◌}
 use native.Mathlib.Omega.{arith}
-use lib.ListN.{length, take, drop, set, replicate, length-append}
-use lib.Seq.{take_at, drop-length, drop_at, sets, length-sets, sets-eq}
+use borrow.Rule.Slice.PartMut.{put_mid, mid_of}
+use lib.ListN.{length, take, drop, set, replicate, length-drop, drop_of_length-le}
+use lib.Seq.{length-take-le}
 use Rattle.format.specs.Blocks.{two_bytes, trailer}
 
--- the trailer: its kind, its three numbers, and zeros after them
-pub trailer_laid : (out : List ℕ) (blocks startup cycle : ℕ) → length out ≡ 64 → (a b d q : List ℕ)
-    → a ≡ sets (set out 0 2) 1 (two_bytes blocks) → b ≡ sets a 3 (two_bytes startup) → d ≡ sets b 5 (two_bytes cycle)
-    → q ≡ take 7 d ++ replicate (length d - 7) 0 → q ≡ trailer blocks startup cycle
-trailer_laid out blocks startup cycle whole a b d q ea eb ed laid =
-    let e : d ≡ sets out 0 (2 ∷ (two_bytes blocks ++ two_bytes startup ++ two_bytes cycle)) = rw (ed, eb, ea) in
-    let n : length d - 7 ≡ 57 = omega (arith, whole, ap length e, length-sets out 0 (2 ∷ (two_bytes blocks ++ two_bytes startup ++ two_bytes cycle))) in
-    laid
-    ∙ ap (λ (k : ℕ). take 7 d ++ replicate k 0) n
-    ∙ ap (λ (l : List ℕ). take 7 l ++ replicate 57 0)
-    (e ∙ sets-eq (2 ∷ (two_bytes blocks ++ two_bytes startup ++ two_bytes cycle)) out 0 (omega arith))
+-- what is left of 64 bytes after the first seven
+rest_zero : (rest : List ℕ) → length rest ≡ 57 → (blocks startup cycle : ℕ)
+    → (2 ∷ two_bytes blocks ++ two_bytes startup ++ two_bytes cycle)
+    ++ (replicate (length (take (length (2 ∷ two_bytes blocks ++ two_bytes startup ++ two_bytes cycle ++ rest) - 7) rest)) 0
+    ++ drop (length (2 ∷ two_bytes blocks ++ two_bytes startup ++ two_bytes cycle ++ rest) - 7) rest) ≡ trailer blocks startup cycle
+rest_zero rest n blocks startup cycle =
+    let e : length (2 ∷ two_bytes blocks ++ two_bytes startup ++ two_bytes cycle ++ rest) - 7 ≡ 57 = omega (arith, n) in
+    rw (e, length-take-le 57 rest (omega arith), drop_of_length-le rest {i = 57} (omega arith), append-nil (replicate {A = ℕ} 57 0))
 
--- a front, and what is laid after it up to the end
-pub laid_both : (out front last : List ℕ) (n : ℕ) → length front ≡ n
-    → take n (front ++ drop n out) ++ (last ++ drop (length (front ++ drop n out) - n) (drop n (front ++ drop n out))) ≡ front ++ last
-laid_both out front last n e =
-    let k : length (front ++ drop n out) - n ≡ length (drop n out) = omega (arith, e, length-append front (drop n out)) in
-    rw (k, take_at front (drop n out) n e, drop_at front (drop n out) n e, drop-length (drop n out), append-nil last)
+-- its kind, its three numbers, and zeros after them
+pub trailer_laid : (out : List ℕ) (blocks startup cycle : ℕ) → length out ≡ 64 → (a b d : List ℕ)
+    → a ≡ two_bytes blocks → b ≡ two_bytes startup → d ≡ two_bytes cycle
+    → (z : List ℕ) → z ≡ replicate (length (mid_of 7 (length (put_mid 5 2 (put_mid 3 2 (put_mid 1 2 (set out 0 2) a) b) d) - 7) (put_mid 5 2 (put_mid 3 2 (put_mid 1 2 (set out 0 2) a) b) d))) 0
+    → put_mid 7 (length (put_mid 5 2 (put_mid 3 2 (put_mid 1 2 (set out 0 2) a) b) d) - 7) (put_mid 5 2 (put_mid 3 2 (put_mid 1 2 (set out 0 2) a) b) d) z ≡ trailer blocks startup cycle
+trailer_laid [] blocks startup cycle whole a b d ea eb ed z ez = absurd (omega arith)
+trailer_laid (x ∷ out) blocks startup cycle whole a b d ea eb ed z ez =
+    let n : length (drop 2 (drop 2 (drop 2 out))) ≡ 57 = omega (arith, length-drop 2 out, length-drop 2 (drop 2 out), length-drop 2 (drop 2 (drop 2 out))) in
+    let e : 7 + length (drop 2 (drop 2 (drop 2 out))) - 7 ≡ 57 = omega arith in
+    rw (ez, ea, eb, ed) (rest_zero (drop 2 (drop 2 (drop 2 out))) n blocks startup cycle)

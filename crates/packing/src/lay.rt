@@ -1,6 +1,5 @@
 // A plan, laid as blocks, from its first byte to its last.
-ghost use Rattle.std.specs.Prelude.{◌≡◌, ◌∷◌, ◌++◌, suc, ◌+◌, ◌-◌, ◌*◌, ◌≤◌, ◌<◌, length, drop};
-ghost use Rattle.std.proofs.lemmas.List.Edits.{sets};
+ghost use Rattle.std.specs.Prelude.{◌≡◌, ◌∷◌, ◌++◌, ◌+◌, ◌*◌, ◌≤◌, length, drop};
 ghost use Rattle.format.specs.Blocks.{block_length, carried_length, plan_kind, padded, plan_blocks, blocks_for, two_bytes, trailer, plan_bytes, largest_length};
 
 use format::{BLOCK, CARRIED, COUNT_AT, CYCLE_AT, PLAN, REST_AT, STARTUP_AT, TRAILER};
@@ -12,14 +11,16 @@ pub(crate) fn whole(out: &mut [u8], startup: &[u8], cycle: &[u8])
     ensures { out.new ≡ plan_bytes startup.now cycle.now }
 {
     let count = format::blocks_for(startup.len() + cycle.len());
-    blocks(&mut out[..BLOCK * count], startup, cycle, count);
-    trailer(&mut out[BLOCK * count..], count, startup.len(), cycle.len());
+    let (front, last) = out.split_at_mut(BLOCK * count);
+    blocks(front, startup, cycle, count);
+    trailer(last, count, startup.len(), cycle.len());
 }
 
 fn blocks(out: &mut [u8], startup: &[u8], cycle: &[u8], count: usize)
     requires { length out.old ≡ block_length * count }
     ensures { out.new ≡ plan_blocks count (startup.now ++ cycle.now) }
 {
+    // No `chunks_exact_mut`: nothing is known of what is written by way of it.
     for i in 0..count {
         block(
             &mut out[BLOCK * i..BLOCK * i + BLOCK],
@@ -37,15 +38,8 @@ fn block(out: &mut [u8], startup: &[u8], cycle: &[u8], from: usize)
 {
     out[0] = PLAN;
     let next = copying::fill(startup, from, out, 1);
-    let end = copying::fill(cycle, past(from, startup.len()), out, next);
+    let end = copying::fill(cycle, from.saturating_sub(startup.len()), out, next);
     copying::zeros(out, end);
-}
-
-// How far a is past b.
-fn past(a: usize, b: usize) -> usize
-    ensures { result ≡ a - b }
-{
-    if a < b { 0 } else { a - b }
 }
 
 fn trailer(out: &mut [u8], count: usize, startup: usize, cycle: usize)
@@ -56,20 +50,16 @@ fn trailer(out: &mut [u8], count: usize, startup: usize, cycle: usize)
     ensures { out.new ≡ trailer count startup cycle }
 {
     out[0] = TRAILER;
-    number(out, COUNT_AT, count);
-    number(out, STARTUP_AT, startup);
-    number(out, CYCLE_AT, cycle);
-    copying::zeros(out, REST_AT);
+    out[COUNT_AT..STARTUP_AT].copy_from_slice(&number(count));
+    out[STARTUP_AT..CYCLE_AT].copy_from_slice(&number(startup));
+    out[CYCLE_AT..REST_AT].copy_from_slice(&number(cycle));
+    out[REST_AT..].fill(0);
 }
 
 // A 16-bit number, low byte first.
-fn number(out: &mut [u8], at: usize, n: usize)
-    requires inside { suc at < length out.old }
-    requires small { n ≤ largest_length }
-    ensures { out.new ≡ sets out.old at (two_bytes n) }
+fn number(n: usize) -> [u8; 2]
+    requires { n ≤ largest_length }
+    ensures { result ≡ two_bytes n }
 {
-    let low = (n % 256) as u8;
-    let high = (n / 256 % 256) as u8;
-    out[at] = low;
-    out[at + 1] = high;
+    (n as u16).to_le_bytes()
 }

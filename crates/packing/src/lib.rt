@@ -5,36 +5,39 @@ mod lay;
 
 ghost use Rattle.std.specs.Prelude.{◌≡◌, ◌+◌, ◌*◌, ◌≤◌};
 ghost use Rattle.format.specs.Blocks.{block_length, blocks_for, largest_length};
-ghost use Rattle.packing.specs.Packing.{PackedAt};
+ghost use Rattle.packing.specs.Packing.{PackedAt, number_of};
 
 use format::{BLOCK, LARGEST};
 
-// How many bytes are used then, or that the plan is refused: number 23.
-#[derive(Clone, Copy)]
-pub enum Appended {
-    Used(usize),
-    Refused,
+// The plan is refused: it doesn't fit, or a length is above 65,535.
+#[derive(Clone, Copy, Debug, PartialEq, Eq)]
+pub struct NoRoom;
+
+impl NoRoom {
+    // The request's number.
+    pub fn number(self) -> usize
+        ensures { result ≡ number_of self }
+    {
+        23
+    }
 }
 
-// Lays a plan and its trailer from place `at` on, unless they don't fit or a length is above 65,535.
-pub fn plan(log: &mut [u8], at: usize, startup: &[u8], cycle: &[u8]) -> Appended
+// Lays a plan and its trailer from place `at` on, unless they don't fit or a length is above 65,535; answers how many bytes are used then.
+pub fn plan(log: &mut [u8], at: usize, startup: &[u8], cycle: &[u8]) -> Result<usize, NoRoom>
     ensures { PackedAt log.old at startup.now cycle.now result log.new }
 {
     if LARGEST < startup.len() {
-        return Appended::Refused;
+        return Err(NoRoom);
     }
     if LARGEST < cycle.len() {
-        return Appended::Refused;
-    }
-    if log.len() < at {
-        return Appended::Refused;
+        return Err(NoRoom);
     }
     let n = length(startup.len(), cycle.len());
-    if log.len() - at < n {
-        return Appended::Refused;
+    if log.len().saturating_sub(at) < n {
+        return Err(NoRoom);
     }
     lay::whole(&mut log[at..at + n], startup, cycle);
-    Appended::Used(at + n)
+    Ok(at + n)
 }
 
 // How many bytes a plan takes with its trailer.

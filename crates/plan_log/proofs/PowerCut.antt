@@ -12,25 +12,25 @@ use borrow.Author.Tests.{ltb-false}
 use Rattle.format.specs.Blocks.{plan_bytes}
 use Rattle.format.specs.Newest.{plan, kept, newest_of, newest}
 use Rattle.format.proofs.CutBack.{kept_length, start_front, start_fits}
-use Rattle.format.proofs.Either.{or_none}
 use Rattle.format.proofs.PowerCut.{bytes_length, kept_torn_plan, newest_plan}
-use Rattle.packing.specs.declared.Appended.TheVariants.{Used}
+use Rattle.std.specs.Prelude.{Ok}
+use Rattle.std.proofs.lemmas.Bool.{or_parts}
 use Rattle.packing.specs.Packing.{end, unfit, IsRefused, IsAppended}
 use Rattle.plan_log.specs.Log.{start, AppendedAs}
 use Rattle.plan_log.specs.PowerCut.{IsTorn, Survives}
 
 module _ (log : List ℕ) (used : ℕ) (startup cycle : List ℕ) (n : ℕ) (after : List ℕ) where
   -- where bytes used are answered, the plan fits and is there
-  is_appended : AppendedAs log used startup cycle (Used n) after
-      → (unfit log (start log used) startup cycle ≡ false) × IsAppended log (start log used) startup cycle (Used n) after
+  is_appended : AppendedAs log used startup cycle (Ok n) after
+      → (unfit log (start log used) startup cycle ≡ false) × IsAppended log (start log used) startup cycle (Ok n) after
   is_appended = go (unfit log (start log used) startup cycle)
     where
-      go : (b : Bool) → cond b (IsRefused log (start log used) startup cycle (Used n) after) (IsAppended log (start log used) startup cycle (Used n) after)
-          → (b ≡ false) × IsAppended log (start log used) startup cycle (Used n) after
+      go : (b : Bool) → cond b (IsRefused log (start log used) startup cycle (Ok n) after) (IsAppended log (start log used) startup cycle (Ok n) after)
+          → (b ≡ false) × IsAppended log (start log used) startup cycle (Ok n) after
       go true x = let z : ◌≡◌ {A = ℕ} 0 1 = cc x.is_number in absurd (omega arith)
       go false x = (refl, x)
 
-  module _ (fits : unfit log (start log used) startup cycle ≡ false) (x : IsAppended log (start log used) startup cycle (Used n) after) where
+  module _ (fits : unfit log (start log used) startup cycle ≡ false) (x : IsAppended log (start log used) startup cycle (Ok n) after) where
     abbrev front : List ℕ
     front = kept (take used log)
 
@@ -51,7 +51,7 @@ module _ (log : List ℕ) (used : ℕ) (startup cycle : List ℕ) (n : ℕ) (aft
     enough =
         let a : Bool = ltb (length log - length front) (length bytes) in
         let b : Bool = ltb 65535 (length startup) in
-        ltb-false (length log - length front) (length bytes) (or_none a b (or_none (a || b) (ltb 65535 (length cycle)) fits).0).0
+        ltb-false (length log - length front) (length bytes) (or_parts a b (or_parts (a || b) (ltb 65535 (length cycle)) fits).0).0
 
     same_length : length after ≡ length log
     same_length =
@@ -79,13 +79,13 @@ module _ (log : List ℕ) (used : ℕ) (startup cycle : List ℕ) (n : ℕ) (aft
 
 -- after an append the bytes used are whole blocks
 pub used_blocks : (log : List ℕ) (used : ℕ) (startup cycle : List ℕ) (n : ℕ) (after : List ℕ)
-    → AppendedAs log used startup cycle (Used n) after → n % 64 ≡ 0
+    → AppendedAs log used startup cycle (Ok n) after → n % 64 ≡ 0
 used_blocks log used startup cycle n after h =
     let x = is_appended log used startup cycle n after h in
     omega (arith, is_end log used startup cycle n after x.0 x.1, kept_length (take used log), bytes_length startup cycle)
 
 appended_newest : (log : List ℕ) (used : ℕ) (startup cycle : List ℕ) (n : ℕ) (after : List ℕ)
-    → AppendedAs log used startup cycle (Used n) after → newest (take n after) ≡ plan startup cycle
+    → AppendedAs log used startup cycle (Ok n) after → newest (take n after) ≡ plan startup cycle
 appended_newest log used startup cycle n after h =
     let x = is_appended log used startup cycle n after h in
     ap newest (whole_bytes log used startup cycle n after x.0 x.1) ∙ newest_plan (take used log) startup cycle

@@ -1,7 +1,6 @@
 -- Whatever byte the power fails after, nothing is lost. Request #104.
-use Rattle.std.specs.Prelude.{◌≡◌, List, ℕ, ◌≤◌, ◌<◌, take}
+use Rattle.std.specs.Prelude.{◌≡◌, List, ℕ, ◌≤◌, ◌<◌, take, Ok}
 use Rattle.format.specs.Newest.{plan, newest}
-use Rattle.packing.specs.declared.Appended.TheVariants.{Used}
 use Rattle.packing.specs.Packing.{unfit}
 use Rattle.plan_log.specs.Log.{start, AppendedAs}
 
@@ -20,9 +19,9 @@ pub record NothingLost (log : List ℕ) (used : ℕ) (startup cycle : List ℕ) 
   pub room : (j : ℕ) → IsTorn log used n j → (s c : List ℕ) → unfit after (start after j) s c ≡ unfit log (start log used) s c
   -- and one that is appended to it is the newest then
   pub again : (j : ℕ) → IsTorn log used n j → (s c : List ℕ) (m : ℕ) (left : List ℕ)
-      → AppendedAs after j s c (Used m) left → newest (take m left) ≡ plan s c
+      → AppendedAs after j s c (Ok m) left → newest (take m left) ≡ plan s c
 
 -- whatever was in the log, whatever plan was appended and whatever byte the power failed after
 abbrev pub Survives : Type 0
 Survives = (log : List ℕ) (used : ℕ) (startup cycle : List ℕ) (n : ℕ) (after : List ℕ)
-    → AppendedAs log used startup cycle (Used n) after → NothingLost log used startup cycle n after
+    → AppendedAs log used startup cycle (Ok n) after → NothingLost log used startup cycle n after

@@ -1,7 +1,6 @@
-pub mod Tests
-pub mod Covered
-pub mod Taking
-pub mod Damaged
-pub mod Newest
 pub mod Handing
+pub mod Covered
+pub mod Damaged
+pub mod Taking
+pub mod Cutting
 pub mod Pinned

@@ -6,25 +6,27 @@ use Prim.Native.Nat.{ℕ}
 use lib.Dec.{eqb, ltb}
 use lib.ListN.{length}
 use Rattle.format.specs.Newest.{Newest, none, damaged, plan}
-use Rattle.unpacking.specs.declared.Found.{Found}
-use Rattle.unpacking.specs.declared.Found.TheVariants.{Plan, Nothing, Damaged, Short}
+use Rattle.std.specs.Prelude.{Result, Ok, Err}
+use Rattle.unpacking.specs.declared.Lengths.{Lengths}
+use Rattle.unpacking.specs.declared.NoPlan.{NoPlan}
+use Rattle.unpacking.specs.declared.NoPlan.TheVariants.{Nothing, Damaged, Short}
 use Rattle.unpacking.specs.Unpacking.{Reply, lengths, number, reply, IsNumber, IsPlan, ReadOff}
 
 -- a reply comes from one answer
-abbrev answer : Reply → Found
-answer (lengths a b) = Plan a b
-answer (number n) = cond (eqb n 20) Nothing (cond (eqb n 21) Damaged Short)
+abbrev answer : Reply → Result Lengths NoPlan
+answer (lengths a b) = Ok (record { startup = a; cycle = b })
+answer (number n) = Err (cond (eqb n 20) Nothing (cond (eqb n 21) Damaged Short))
 
-answer_back : (r : Found) → answer (reply r) ≡ r
-answer_back (Plan a b) = refl
-answer_back Nothing = refl
-answer_back Damaged = refl
-answer_back Short = refl
+answer_back : (r : Result Lengths NoPlan) → answer (reply r) ≡ r
+answer_back (Ok n) = refl
+answer_back (Err Nothing) = refl
+answer_back (Err Damaged) = refl
+answer_back (Err Short) = refl
 
-one_answer : (r r' : Found) → reply r ≡ reply r' → r ≡ r'
+one_answer : (r r' : Result Lengths NoPlan) → reply r ≡ reply r' → r ≡ r'
 one_answer r r' e = sym (answer_back r) ∙ ap answer e ∙ answer_back r'
 
-module _ (startup cycle : List ℕ) (r r' : Found) (s s' c c' : List ℕ) where
+module _ (startup cycle : List ℕ) (r r' : Result Lengths NoPlan) (s s' c c' : List ℕ) where
   abbrev Same : Type 0
   Same = (r ≡ r') × (s ≡ s') × (c ≡ c')
 

@@ -1,22 +1,27 @@
 -- The newest plan handed over, or a number. Request #104.
-use Rattle.std.specs.Prelude.{◌≡◌, cond, ◌||◌, List, ◌++◌, ℕ, ltb, length, drop}
+use Rattle.std.specs.Prelude.{◌≡◌, cond, ◌||◌, List, ◌++◌, ℕ, ltb, length, drop, Result, Ok, Err}
 use Rattle.format.specs.Newest.{Newest, none, damaged, plan}
-use Rattle.unpacking.specs.declared.Found.{Found}
-use Rattle.unpacking.specs.declared.Found.TheVariants.{Plan, Nothing, Damaged, Short}
+use Rattle.unpacking.specs.declared.Lengths.{Lengths}
+use Rattle.unpacking.specs.declared.NoPlan.{NoPlan}
+use Rattle.unpacking.specs.declared.NoPlan.TheVariants.{Nothing, Damaged, Short}
+
+-- the request's numbers
+abbrev pub number_of : NoPlan → ℕ
+number_of Nothing = 20
+number_of Damaged = 21
+number_of Short = 22
 
 -- an answer as the request has it: the plan's two lengths, or a number
 pub data Reply : Type 0 where
   lengths : ℕ → ℕ → Reply
   number : ℕ → Reply
 
-abbrev pub reply : Found → Reply
-reply (Plan startup cycle) = lengths startup cycle
-reply Nothing = number 20
-reply Damaged = number 21
-reply Short = number 22
+abbrev pub reply : Result Lengths NoPlan → Reply
+reply (Ok n) = lengths n.startup n.cycle
+reply (Err e) = number (number_of e)
 
 -- `startup` and `cycle` are the buffers as they were lent, s and c as they are left
-module _ (startup cycle : List ℕ) (r : Found) (s c : List ℕ) where
+module _ (startup cycle : List ℕ) (r : Result Lengths NoPlan) (s c : List ℕ) where
   -- an answer by number changes nothing
   pub record IsNumber (n : ℕ) : Type 0 where
     pub is_number : reply r ≡ number n

@@ -1,65 +1,62 @@
 // Whether a trailer, and what it covers, is to be refused.
-ghost use Rattle.std.specs.Prelude.{◌≡◌, suc, ◌*◌, ◌≤◌, ◌<◌, length};
+ghost use Rattle.std.specs.Prelude.{◌≡◌, true, false, suc, ◌/◌, ◌<◌, ◌≤◌, length, MatchResult};
 ghost use Rattle.format.specs.Blocks.{block_length, largest_length};
-ghost use Rattle.format.specs.Newest.{number_at, all_plan, all_zero, is_damaged};
+ghost use Rattle.format.specs.Newest as newest;
 
+use crate::{Lengths, NoPlan};
 use format::{BLOCK, COUNT_AT, CYCLE_AT, PLAN, REST_AT, STARTUP_AT};
 
-// A 16-bit number from place i on, low byte first.
-pub(crate) fn number(bytes: &[u8], i: usize) -> usize
-    requires { suc i < length bytes.now }
-    ensures read { result ≡ number_at bytes.now i }
-    ensures small { result ≤ largest_length }
-{
-    let low = bytes[i] as usize;
-    let high = bytes[i + 1] as usize;
-    low + 256 * high
-}
-
-// The tests in the request's order.
-pub(crate) fn damaged(before: &[u8], trailer: &[u8]) -> bool
-    requires { length trailer.now ≡ block_length }
-    ensures { result ≡ is_damaged before.now trailer.now }
+// The blocks that a trailer covers, and the lengths of the plan that they carry; refused by the tests in the request's order.
+pub(crate) fn covered<'a>(
+    before: &'a [u8],
+    trailer: &[u8; BLOCK],
+) -> Result<(&'a [u8], Lengths), NoPlan>
+    ensures { MatchResult result
+        (λ p. (newest.is_damaged before.now trailer.now ≡ false) × (p.0.now ≡ newest.covered before.now trailer.now) × (p.1.startup ≡ newest.startup_length trailer.now) × (p.1.cycle ≡ newest.cycle_length trailer.now))
+        (λ e. (newest.is_damaged before.now trailer.now ≡ true) × (e ≡ NoPlan.Damaged)) }
 {
     let count = number(trailer, COUNT_AT);
-    let entries = number(trailer, STARTUP_AT) + number(trailer, CYCLE_AT);
+    let startup = number(trailer, STARTUP_AT);
+    let cycle = number(trailer, CYCLE_AT);
+    let entries = startup + cycle;
     if count != format::blocks_for(entries) {
-        return true;
+        return Err(NoPlan::Damaged);
     }
     if before.len() < BLOCK * count {
-        return true;
+        return Err(NoPlan::Damaged);
     }
-    let covered = &before[before.len() - BLOCK * count..];
-    if !all_plan(covered, count) {
-        return true;
+    let blocks = &before[before.len() - BLOCK * count..];
+    if !all_plan(blocks) {
+        return Err(NoPlan::Damaged);
     }
     // First bytes and entries come before the pad.
     let pad = count + entries;
-    if !all_zero(&covered[pad..]) {
-        return true;
+    if !all_zero(&blocks[pad..]) {
+        return Err(NoPlan::Damaged);
     }
-    !all_zero(&trailer[REST_AT..])
+    if !all_zero(&trailer[REST_AT..]) {
+        return Err(NoPlan::Damaged);
+    }
+    Ok((blocks, Lengths { startup, cycle }))
 }
 
-fn all_plan(blocks: &[u8], count: usize) -> bool
-    requires { block_length * count ≤ length blocks.now }
-    ensures { result ≡ all_plan count blocks.now }
+// A 16-bit number from place i on, low byte first.
+fn number(bytes: &[u8], i: usize) -> usize
+    requires { suc i < length bytes.now }
+    ensures read { result ≡ newest.number_at bytes.now i }
+    ensures small { result ≤ largest_length }
 {
-    for i in 0..count {
-        if blocks[BLOCK * i] != PLAN {
-            return false;
-        }
-    }
-    true
+    u16::from_le_bytes([bytes[i], bytes[i + 1]]) as usize
+}
+
+fn all_plan(blocks: &[u8]) -> bool
+    ensures { result ≡ newest.all_plan (length blocks.now / block_length) blocks.now }
+{
+    blocks.chunks_exact(BLOCK).all(|block| block[0] == PLAN)
 }
 
 fn all_zero(bytes: &[u8]) -> bool
-    ensures { result ≡ all_zero bytes.now }
+    ensures { result ≡ newest.all_zero bytes.now }
 {
-    for i in 0..bytes.len() {
-        if bytes[i] != 0 {
-            return false;
-        }
-    }
-    true
+    bytes.iter().all(|b| *b == 0)
 }

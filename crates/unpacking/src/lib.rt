@@ -3,69 +3,89 @@
 
 mod check;
 
-ghost use Rattle.std.specs.Prelude.{◌≡◌, false, ◌+◌, ◌*◌, ◌≤◌, length, take, drop};
+ghost use Rattle.std.specs.Prelude.{◌≡◌, ◌+◌, ◌*◌, ◌/◌, ◌≤◌, length, take, drop};
 ghost use Rattle.format.specs.Blocks.{block_length, carried_length};
-ghost use Rattle.format.specs.Newest.{carried, is_damaged, plan_before, newest_of};
-ghost use Rattle.unpacking.specs.Unpacking.{ReadOff};
+ghost use Rattle.format.specs.Newest as newest;
+ghost use Rattle.unpacking.specs.Unpacking.{ReadOff, number_of};
 
-use format::{BLOCK, CARRIED, COUNT_AT, CYCLE_AT, STARTUP_AT};
+use format::BLOCK;
 
-// The lengths of the plan's two parts; or number 20, no plan; 21, a trailer that is refused; 22, a buffer shorter than its part.
-#[derive(Clone, Copy)]
-pub enum Found {
-    Plan(usize, usize),
+// How many entries a plan's two parts have.
+#[derive(Clone, Copy, Debug, PartialEq, Eq)]
+pub struct Lengths {
+    pub startup: usize,
+    pub cycle: usize,
+}
+
+// No plan is handed over: there is none, the last trailer is refused, or a buffer is shorter than its part.
+#[derive(Clone, Copy, Debug, PartialEq, Eq)]
+pub enum NoPlan {
     Nothing,
     Damaged,
     Short,
 }
 
+impl NoPlan {
+    // The request's number.
+    pub fn number(self) -> usize
+        ensures { result ≡ number_of self }
+    {
+        match self {
+            NoPlan::Nothing => 20,
+            NoPlan::Damaged => 21,
+            NoPlan::Short => 22,
+        }
+    }
+}
+
 // Hands over the plan before the last block of a log, which is a trailer where the log has been cut back.
-pub fn plan(log: &[u8], startup: &mut [u8], cycle: &mut [u8]) -> Found
-    ensures { ReadOff startup.old cycle.old result startup.new cycle.new (newest_of log.now) }
+pub fn plan(log: &[u8], startup: &mut [u8], cycle: &mut [u8]) -> Result<Lengths, NoPlan>
+    ensures { ReadOff startup.old cycle.old result startup.new cycle.new (newest.newest_of log.now) }
 {
-    if log.len() < BLOCK {
-        return Found::Nothing;
-    }
-    let at = log.len() - BLOCK;
-    let before = &log[..at];
-    let trailer = &log[at..];
-    if check::damaged(before, trailer) {
-        return Found::Damaged;
-    }
-    hand(before, trailer, startup, cycle)
+    let Some((before, trailer)) = log.split_last_chunk::<BLOCK>() else {
+        return Err(NoPlan::Nothing);
+    };
+    let (blocks, lengths) = check::covered(before, trailer)?;
+    hand(blocks, lengths, startup, cycle)
 }
 
-// The plan before a trailer, into two lent buffers, unless one is shorter than its part.
-fn hand(before: &[u8], trailer: &[u8], startup: &mut [u8], cycle: &mut [u8]) -> Found
-    requires trailer_len { length trailer.now ≡ block_length }
-    requires not_damaged { is_damaged before.now trailer.now ≡ false }
-    ensures { ReadOff startup.old cycle.old result startup.new cycle.new (plan_before before.now trailer.now) }
+// The plan that the blocks carry, into two lent buffers, unless one is shorter than its part.
+fn hand(
+    blocks: &[u8],
+    lengths: Lengths,
+    startup: &mut [u8],
+    cycle: &mut [u8],
+) -> Result<Lengths, NoPlan>
+    requires { lengths.startup + lengths.cycle ≤ carried_length * (length blocks.now / block_length) }
+    ensures { let entries = newest.carried (length blocks.now / block_length) blocks.now in
+        ReadOff startup.old cycle.old result startup.new cycle.new (newest.plan (take lengths.startup entries) (take lengths.cycle (drop lengths.startup entries))) }
 {
-    let count = check::number(trailer, COUNT_AT);
-    let s = check::number(trailer, STARTUP_AT);
-    let c = check::number(trailer, CYCLE_AT);
-    if startup.len() < s {
-        return Found::Short;
+    if startup.len() < lengths.startup {
+        return Err(NoPlan::Short);
     }
-    if cycle.len() < c {
-        return Found::Short;
+    if cycle.len() < lengths.cycle {
+        return Err(NoPlan::Short);
     }
-    let covered = &before[before.len() - BLOCK * count..];
-    entries(covered, 0, &mut startup[..s], count);
-    entries(covered, s, &mut cycle[..c], count);
-    Found::Plan(s, c)
+    entries(
+        blocks,
+        &mut startup[..lengths.startup],
+        &mut cycle[..lengths.cycle],
+    );
+    Ok(lengths)
 }
 
-// The entries from `from` on, as many as out has room for.
-fn entries(blocks: &[u8], from: usize, out: &mut [u8], count: usize)
-    requires blocks_len { length blocks.now ≡ block_length * count }
-    requires out_bound { from + length out.old ≤ carried_length * count }
-    ensures { out.new ≡ take (length out.old) (drop from (carried count blocks.now)) }
+// The startup entries that the blocks carry, and after them the cycle entries.
+fn entries(blocks: &[u8], startup: &mut [u8], cycle: &mut [u8])
+    requires { length startup.old + length cycle.old ≤ carried_length * (length blocks.now / block_length) }
+    ensures first { startup.new ≡ take (length startup.old) (newest.carried (length blocks.now / block_length) blocks.now) }
+    ensures second { cycle.new ≡ take (length cycle.old) (drop (length startup.old) (newest.carried (length blocks.now / block_length) blocks.now)) }
 {
-    let mut done = 0;
-    while done < out.len() {
-        let next = from + done;
-        let at = BLOCK * (next / CARRIED);
-        done = copying::fill(&blocks[at + 1..at + BLOCK], next % CARRIED, out, done);
+    let mut s = 0;
+    let mut c = 0;
+    for block in blocks.chunks_exact(BLOCK) {
+        let carried = &block[1..];
+        let next = copying::fill(carried, 0, startup, s);
+        c = copying::fill(carried, next - s, cycle, c);
+        s = next;
     }
 }

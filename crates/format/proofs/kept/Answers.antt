@@ -1,21 +1,11 @@
--- `kept` meets its contract: back from the last whole block, a block at a time.
-use mathlib.Core.Path.{◌≡◌, refl, sym, ◌∙◌, ap}
-use Prim.Native.Nat.{ℕ, ◌*◌}
-use native.Mathlib.Omega.{arith}
-use Rattle.format.specs.Newest.{blocks_kept}
-use Rattle.format.proofs.CutBack.{kept_other, kept_length}
+-- `kept` meets its contract: back from the last whole block to the first that is a trailer.
+use Rattle.std.proofs.Common.{rules, arith}
+use borrow.Author.Tests.{tests}
+use Rattle.format.proofs.FromBack.{found_in}
 use Rattle.format.proofs.kept.Goals as goal
-
-pub loop-n-init : goal.loop-n-init
-loop-n-init c = (omega arith, refl)
-
-pub loop-n-preserved : goal.loop-n-preserved
-loop-n-preserved c =
-    let x = c.args in
-    (omega arith, kept_other x.log.now c.loop-n.n c.loop-n-test.true c.if-log-n-eq-TRAILER.false ∙ c.loop-n.invariant.1)
 
 pub returns : goal.returns
 returns c =
-    let x = c.args in
-    let e : c.loop-n.n ≡ 0 = omega arith in
-    sym (kept_length x.log.now ∙ ap (λ (k : ℕ). 64 * k) (sym c.loop-n.invariant.1 ∙ ap (blocks_kept x.log.now) e))
+    let r = c.rposition.ensures.ran in
+    found_in _ _ (λ x q k. search (rules, tests)) (λ x q k. search (rules, tests)) c.args.log.now r.0 c.chunks_exact.result c.rposition.new.self r.1 r.2 c.rposition.result
+    c.chunks_exact.ensures.rest (omega (arith, c.chunks_exact.ensures.size)) r.3 r.4 r.5 c.map_or.result _ (λ i e. search rules) c.map_or.ensures

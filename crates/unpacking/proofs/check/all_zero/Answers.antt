@@ -1,23 +1,13 @@
--- `all_zero` meets its contract: byte after byte.
-use mathlib.Core.Path.{refl, sym, ◌∙◌}
-use native.Mathlib.Omega.{arith}
-use Rattle.unpacking.proofs.Tests.{zero_on, zero_not, zero_end}
+-- `all_zero` meets its contract: `all` of the bytes.
+use Rattle.std.proofs.Common.{rules, ◌∙◌}
+use borrow.Author.Tests.{tests}
+use Rattle.std.proofs.lemmas.Iterator.{YieldsList-from_slice}
+use Rattle.std.proofs.lemmas.Iterator.Search.{all_from_yields_List}
+use lib.Dec.{eqb}
+use Rattle.unpacking.proofs.Cutting.{zero_is}
 use Rattle.unpacking.proofs.check.all_zero.Goals as goal
-
-pub loop-i-init : goal.loop-i-init
-loop-i-init c = (omega arith, refl)
-
-pub returns-then-bytes-i-ne0 : goal.returns-then-bytes-i-ne0
-returns-then-bytes-i-ne0 c =
-    let x = c.args in
-    sym (c.loop-i.invariant.1 ∙ zero_not x.bytes.now c.loop-i.i c.loop-i-test.true c.if-bytes-i-ne0.true)
-
-pub loop-i-preserved : goal.loop-i-preserved
-loop-i-preserved c =
-    let x = c.args in
-    (omega arith, c.loop-i.invariant.1 ∙ zero_on x.bytes.now c.loop-i.i c.loop-i-test.true c.if-bytes-i-ne0.false)
 
 pub returns : goal.returns
 returns c =
-    let x = c.args in
-    sym (c.loop-i.invariant.1 ∙ zero_end x.bytes.now c.loop-i.i (omega arith))
+    all_from_yields_List (λ b. eqb b 0) _ _ _ c.all.ensures.ran (YieldsList-from_slice c.args.bytes.now c.iter.ensures.rest) (λ x b q k. search (rules, tests))
+    ∙ zero_is c.args.bytes.now
