@@ -8,14 +8,11 @@ pub fn fill(src: &[u8], from: usize, dst: &mut [u8], at: usize) -> usize
     ensures place { result ≡ at + length (take (length dst.old - at) (drop from src.now)) }
     ensures copied { dst.new ≡ take at dst.old ++ take (length dst.old - at) (drop from src.now) ++ drop result dst.old }
 {
-    let Some(rest) = src.get(from..) else {
-        return at;
-    };
-    if dst.len() < at {
+    if src.len() <= from || dst.len() <= at {
         return at;
     }
-    let n = rest.len().min(dst.len() - at);
-    dst[at..at + n].copy_from_slice(&rest[..n]);
+    let n = (src.len() - from).min(dst.len() - at);
+    dst[at..at + n].copy_from_slice(&src[from..from + n]);
     at + n
 }
 

@@ -4,9 +4,8 @@
 
 mod tally;
 
-use packing::Appended;
 use std::io;
-use tally::{Tally, named};
+use tally::{Plan, Tally, before, look};
 use task::Task;
 
 // The longest tables that the checker writes.
@@ -17,81 +16,73 @@ const CYCLE: usize = Task::LONGEST_HYPERPERIOD;
 // Such a plan takes 782 blocks with its trailer, and the one before it two.
 const ROOM: usize = 784 * format::BLOCK;
 
-fn used(said: Appended) -> usize {
-    match said {
-        Appended::Used(n) => n,
-        Appended::Refused => 0,
-    }
+// How many bytes are used once a plan is appended.
+fn append(log: &mut [u8], used: usize, plan: Plan) -> usize {
+    plan_log::append(log, used, plan.startup, plan.cycle).unwrap_or(0)
 }
 
 // Entries that differ from those near them.
 fn number_all(entries: &mut [u8], first: usize) {
-    for i in 0..entries.len() {
-        entries[i] = ((first % 256 + i % 251) % 256) as u8;
+    for (i, entry) in entries.iter_mut().enumerate() {
+        *entry = ((first % 256 + i % 251) % 256) as u8;
     }
 }
 
 // What is left once j bytes are written, read for each j from `begun` to the whole.
-fn cut(log: &[u8], begun: usize, startup: &[u8], cycle: &[u8]) -> Tally {
+fn cut(log: &[u8], begun: usize, plan: Plan) -> Tally {
     let mut s = [0u8; STARTUP];
     let mut c = [0u8; CYCLE];
-    let mut tally = Tally::none();
-    for j in begun..log.len() {
-        tally = tally.with(tally::look(&log[..j], startup, cycle, &mut s, &mut c));
+    let mut tally = Tally::default();
+    for j in begun..=log.len() {
+        tally.add(look(&log[..j], plan, &mut s, &mut c));
     }
-    tally.with(tally::look(log, startup, cycle, &mut s, &mut c))
+    tally
 }
 
-fn in_log(
-    rt: &impl Print,
-    log: &mut [u8],
-    begun: usize,
-    startup: &[u8],
-    cycle: &[u8],
-) -> io::Result<()> {
-    let whole = used(plan_log::append(log, begun, startup, cycle));
-    if log.len() < whole {
+fn in_log(rt: &impl Print, log: &mut [u8], begun: usize, plan: Plan) -> io::Result<()> {
+    let whole = append(log, begun, plan);
+    let Some(written) = log.get(..whole) else {
         return Ok(());
-    }
-    cut(&log[..whole], begun, startup, cycle).print(rt)
+    };
+    println!(rt; "{}", cut(written, begun, plan))
 }
 
 // After each cut another plan is appended and read, and then the first again.
-fn again(
-    rt: &impl Print,
-    log: &mut [u8],
-    begun: usize,
-    startup: &[u8],
-    cycle: &[u8],
-) -> io::Result<()> {
+fn again(rt: &impl Print, log: &mut [u8], begun: usize, plan: Plan) -> io::Result<()> {
+    let another = Plan {
+        startup: b"an",
+        cycle: b"other",
+    };
     let mut s = [0u8; 64];
     let mut c = [0u8; 64];
-    let whole = used(plan_log::append(log, begun, startup, cycle));
-    let mut tally = Tally::none();
+    let whole = append(log, begun, plan);
+    let mut tally = Tally::default();
     for j in begun..whole {
-        let n = used(plan_log::append(log, j, b"an", b"other"));
-        if log.len() < n {
+        let n = append(log, j, another);
+        let Some(written) = log.get(..n) else {
             return Ok(());
-        }
-        tally = tally.with(tally::look(&log[..n], b"an", b"other", &mut s, &mut c));
-        plan_log::append(log, begun, startup, cycle);
+        };
+        tally.add(look(written, another, &mut s, &mut c));
+        append(log, begun, plan);
     }
-    rt.write_all(b"  another appended after each")?;
-    tally.print(rt)
+    println!(rt; "  another appended after each: {tally}")
 }
 
 // A plan in an empty log, and after another plan.
-fn both(rt: &impl Print, log: &mut [u8], startup: &[u8], cycle: &[u8]) -> io::Result<()> {
-    named(rt, b"startup ", startup.len())?;
-    named(rt, b", cycle ", cycle.len())?;
-    rt.write_all(b"\n  cut in an empty log")?;
-    in_log(rt, log, 0, startup, cycle)?;
-    let begun = used(plan_log::append(log, 0, b"be", b"fore"));
-    rt.write_all(b"  cut after a plan")?;
-    in_log(rt, log, begun, startup, cycle)?;
+fn both(rt: &impl Print, log: &mut [u8], plan: Plan) -> io::Result<()> {
+    println!(rt;
+        "startup {}, cycle {}",
+        plan.startup.len(),
+        plan.cycle.len()
+    )?;
+    print!(rt; "  cut in an empty log: ")?;
+    in_log(rt, log, 0, plan)?;
+    let begun = append(log, 0, before());
+    print!(rt; "  cut after a plan: ")?;
+    in_log(rt, log, begun, plan)?;
     // Each of these lays the whole plan anew, so the longest is left out.
-    if startup.len() < 64 {
-        again(rt, log, begun, startup, cycle)?;
+    if plan.startup.len() < 64 {
+        again(rt, log, begun, plan)?;
     }
     Ok(())
 }
@@ -102,44 +93,41 @@ fn plan(rt: &impl Print, s: usize, c: usize) -> io::Result<()> {
     let mut log = [0u8; ROOM];
     number_all(&mut startup, 1);
     number_all(&mut cycle, 101);
-    if STARTUP < s {
-        return Ok(());
+    match (startup.get(..s), cycle.get(..c)) {
+        (Some(startup), Some(cycle)) => both(rt, &mut log, Plan { startup, cycle }),
+        _ => Ok(()),
     }
-    if CYCLE < c {
-        return Ok(());
-    }
-    both(rt, &mut log, &startup[..s], &cycle[..c])
 }
 
-fn next(b: u8) -> u8 {
-    if b < 255 { b + 1 } else { 0 }
-}
-
-// Each byte one more, and then as it was.
-fn damage(rt: &impl Print, log: &mut [u8], startup: &[u8], cycle: &[u8]) -> io::Result<()> {
+// Each byte one more, and then as it was: the whole log is read in between.
+fn damage(rt: &impl Print, log: &mut [u8], newest: Plan) -> io::Result<()> {
     let mut s = [0u8; 64];
     let mut c = [0u8; 64];
-    let mut tally = Tally::none();
+    let mut tally = Tally::default();
     for i in 0..log.len() {
         let kept = log[i];
-        log[i] = next(kept);
-        tally = tally.with(tally::look(log, startup, cycle, &mut s, &mut c));
+        log[i] = kept.wrapping_add(1);
+        tally.add(look(log, newest, &mut s, &mut c));
         log[i] = kept;
     }
-    tally.print(rt)
+    println!(rt; "{tally}")
 }
 
 // A plan of six entries takes 128 bytes.
 fn damaged(rt: &impl Print) -> io::Result<()> {
+    let newest = Plan {
+        startup: b"new",
+        cycle: b"est",
+    };
     let mut one = [0u8; 128];
-    plan_log::append(&mut one, 0, b"new", b"est");
-    rt.write_all(b"one plan, each byte changed")?;
-    damage(rt, &mut one, b"new", b"est")?;
+    append(&mut one, 0, newest);
+    print!(rt; "one plan, each byte changed: ")?;
+    damage(rt, &mut one, newest)?;
     let mut two = [0u8; 256];
-    plan_log::append(&mut two, 0, b"be", b"fore");
-    plan_log::append(&mut two, 128, b"new", b"est");
-    rt.write_all(b"two plans, each byte changed")?;
-    damage(rt, &mut two, b"new", b"est")
+    append(&mut two, 0, before());
+    append(&mut two, 128, newest);
+    print!(rt; "two plans, each byte changed: ")?;
+    damage(rt, &mut two, newest)
 }
 
 fn main(rt: HostRuntime) -> io::Result<()> {

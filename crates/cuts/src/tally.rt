@@ -1,6 +1,21 @@
 // What reading a log gives, and how often.
-use std::io;
-use unpacking::Found;
+use std::fmt;
+use unpacking::NoPlan;
+
+// The two parts of a plan.
+#[derive(Clone, Copy, PartialEq, Eq)]
+pub(crate) struct Plan<'a> {
+    pub(crate) startup: &'a [u8],
+    pub(crate) cycle: &'a [u8],
+}
+
+// The plan before the newest, wherever there is one.
+pub(crate) fn before() -> Plan<'static> {
+    Plan {
+        startup: b"be",
+        cycle: b"fore",
+    }
+}
 
 #[derive(Clone, Copy)]
 pub(crate) enum Seen {
@@ -12,7 +27,7 @@ pub(crate) enum Seen {
     Other,
 }
 
-#[derive(Clone, Copy)]
+#[derive(Clone, Copy, Default)]
 pub(crate) struct Tally {
     nothing: usize,
     damaged: usize,
@@ -22,104 +37,58 @@ pub(crate) struct Tally {
     other: usize,
 }
 
-// No run counts so far that it would wrap.
-fn more(n: usize) -> usize {
-    if n < usize::MAX { n + 1 } else { n }
-}
-
-pub(crate) fn named(rt: &impl Print, name: &[u8], n: usize) -> io::Result<()> {
-    rt.write_all(name)?;
-    rt.print(n)
-}
-
 impl Tally {
-    pub(crate) fn none() -> Tally {
-        Tally {
-            nothing: 0,
-            damaged: 0,
-            short: 0,
-            before: 0,
-            newest: 0,
-            other: 0,
-        }
-    }
-
-    pub(crate) fn with(mut self, seen: Seen) -> Tally {
+    // No run counts so far that a count stays where it is.
+    pub(crate) fn add(&mut self, seen: Seen) {
         match seen {
-            Seen::Nothing => self.nothing = more(self.nothing),
-            Seen::Damaged => self.damaged = more(self.damaged),
-            Seen::Short => self.short = more(self.short),
-            Seen::Before => self.before = more(self.before),
-            Seen::Newest => self.newest = more(self.newest),
-            Seen::Other => self.other = more(self.other),
+            Seen::Nothing => self.nothing = self.nothing.saturating_add(1),
+            Seen::Damaged => self.damaged = self.damaged.saturating_add(1),
+            Seen::Short => self.short = self.short.saturating_add(1),
+            Seen::Before => self.before = self.before.saturating_add(1),
+            Seen::Newest => self.newest = self.newest.saturating_add(1),
+            Seen::Other => self.other = self.other.saturating_add(1),
         }
-        self
-    }
-
-    pub(crate) fn print(self, rt: &impl Print) -> io::Result<()> {
-        named(rt, b": no plan ", self.nothing)?;
-        named(rt, b", damaged ", self.damaged)?;
-        named(rt, b", short ", self.short)?;
-        named(rt, b", the plan before ", self.before)?;
-        named(rt, b", the newest ", self.newest)?;
-        named(rt, b", another ", self.other)?;
-        rt.write_all(b"\n")
     }
 }
 
-fn same(a: &[u8], b: &[u8]) -> bool {
-    if a.len() != b.len() {
-        return false;
+impl fmt::Display for Tally {
+    fn fmt<W: fmt::Write>(&self, f: &mut fmt::Formatter<W>) -> fmt::Result {
+        write!(f, "no plan {}, ", self.nothing)?;
+        write!(f, "damaged {}, ", self.damaged)?;
+        write!(f, "short {}, ", self.short)?;
+        write!(f, "the plan before {}, ", self.before)?;
+        write!(f, "the newest {}, ", self.newest)?;
+        write!(f, "another {}", self.other)
     }
-    for i in 0..a.len() {
-        if a[i] != b[i] {
-            return false;
-        }
-    }
-    true
 }
 
-// The plan before is always the same.
-fn which(s: &[u8], c: &[u8], startup: &[u8], cycle: &[u8]) -> Seen {
-    if same(s, b"be") {
-        if same(c, b"fore") {
-            return Seen::Before;
-        }
+fn which(read: Plan, newest: Plan) -> Seen {
+    if read == before() {
+        Seen::Before
+    } else if read == newest {
+        Seen::Newest
+    } else {
+        Seen::Other
     }
-    if same(s, startup) {
-        if same(c, cycle) {
-            return Seen::Newest;
-        }
-    }
-    Seen::Other
 }
 
 // No plan here has this entry among its first 64, and one that is longer is read once.
 fn spoil(buffer: &mut [u8]) {
-    for i in 0..buffer.len() {
-        if 64 <= i {
-            return;
-        }
-        buffer[i] = 254;
-    }
+    let n = buffer.len().min(64);
+    buffer[..n].fill(254);
 }
 
 // Reads a log by way of two buffers, in which nothing is left of what was read before, and tells which plan that is.
-pub(crate) fn look(log: &[u8], startup: &[u8], cycle: &[u8], s: &mut [u8], c: &mut [u8]) -> Seen {
+pub(crate) fn look(log: &[u8], newest: Plan, s: &mut [u8], c: &mut [u8]) -> Seen {
     spoil(s);
     spoil(c);
     match plan_log::read(log, s, c) {
-        Found::Nothing => Seen::Nothing,
-        Found::Damaged => Seen::Damaged,
-        Found::Short => Seen::Short,
-        Found::Plan(m, n) => {
-            if s.len() < m {
-                return Seen::Other;
-            }
-            if c.len() < n {
-                return Seen::Other;
-            }
-            which(&s[..m], &c[..n], startup, cycle)
-        }
+        Err(NoPlan::Nothing) => Seen::Nothing,
+        Err(NoPlan::Damaged) => Seen::Damaged,
+        Err(NoPlan::Short) => Seen::Short,
+        Ok(lengths) => match (s.get(..lengths.startup), c.get(..lengths.cycle)) {
+            (Some(startup), Some(cycle)) => which(Plan { startup, cycle }, newest),
+            _ => Seen::Other,
+        },
     }
 }

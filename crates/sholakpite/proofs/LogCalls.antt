@@ -1,19 +1,15 @@
--- Calls over a log: what is not understood, what is, and that what is promised leaves one outcome.
-use mathlib.Core.Path.{◌≡◌, refl, sym, ap, ◌∙◌}
+-- Calls over a log: that what is promised leaves one outcome.
+use mathlib.Core.Path.{◌≡◌, sym, ap, ◌∙◌}
 use mathlib.Core.Bool.{Bool, true, false, cond}
-use mathlib.Core.List.{List, [], ◌∷◌, ◌++◌}
-use Prim.Native.Nat.{ℕ, ◌≤◌, ◌<◌}
+use mathlib.Core.List.{List, ◌++◌}
+use Prim.Native.Nat.{ℕ}
 use native.Mathlib.Omega.{arith}
 use lib.Dec.{ltb}
-use lib.ListN.{length, set, drop}
-use lib.Seq.{sets-eq}
-use borrow.Author.Tests.{lt-ltb, le-ltb}
-use Rattle.packing.specs.declared.Appended.TheVariants.{Used}
+use lib.ListN.{length, drop}
+use Rattle.std.specs.Prelude.{Ok}
 use Rattle.packing.specs.Packing as packing
-use Rattle.unpacking.specs.declared.Found.{Found}
-use Rattle.unpacking.specs.declared.Found.TheVariants.{Plan}
 use Rattle.unpacking.specs.Unpacking as unpacking
-use Rattle.plan_log.specs.Log.{AppendedAs, ReadAs}
+use Rattle.plan_log.specs.Log.{AppendedAs}
 use Rattle.plan_log.proofs.Pinned.{append_pinned, read_pinned}
 use Rattle.plan_log.proofs.PowerCut.{used_blocks}
 use Rattle.sholakpite.specs.Logs.{append_code, read_code, length_words, AnsweredAppend, NotUnderstood, Understood, AnsweredRead}
@@ -27,29 +23,10 @@ append_call_pinned log used startup cycle n n' left left' x y =
 
 -- so many bytes used can't be mistaken for a refusal
 pub never_23 : (log : List ℕ) (used : ℕ) (startup cycle : List ℕ) (n : ℕ) (after : List ℕ)
-    → AppendedAs log used startup cycle (Used n) after → n ≡ 23 → ⊥
+    → AppendedAs log used startup cycle (Ok n) after → n ≡ 23 → ⊥
 never_23 log used startup cycle n after h e = omega (arith, e, used_blocks log used startup cycle n after h)
 
-two_words : (words : List ℕ) (a b : ℕ) → 2 ≤ length words → set (set words 0 a) 1 b ≡ a ∷ b ∷ drop 2 words
-two_words words a b h = sets-eq (a ∷ b ∷ []) words 0 (omega arith)
-
 module _ (log startup cycle words : List ℕ) where
-  pub read_not_understood : length words < 2 → AnsweredRead log startup cycle words 4 startup cycle words
-  read_not_understood h =
-      rw (lt-ltb (length words) 2 h) (record { is_code = refl; startup_unchanged = refl; cycle_unchanged = refl; words_unchanged = refl })
-
-  module _ (room : 2 ≤ length words) (r : Found) (s c : List ℕ) (read : ReadAs log startup cycle r s c) where
-    read_understood : (n : ℕ) (w : List ℕ) → n ≡ read_code (unpacking.reply r)
-        → w ≡ length_words (unpacking.reply r) ++ drop (length (length_words (unpacking.reply r))) words → AnsweredRead log startup cycle words n s c w
-    read_understood n w code written =
-        rw (le-ltb (length words) 2 room) (record { answer = r; read_as = read; is_code = code; is_written = written })
-
-    pub read_number : (n : ℕ) → unpacking.reply r ≡ unpacking.number n → AnsweredRead log startup cycle words n s c words
-    read_number n e = read_understood n words (rw e) (rw e)
-
-    pub read_plan : (a b : ℕ) → r ≡ Plan a b → AnsweredRead log startup cycle words 0 s c (set (set words 0 a) 1 b)
-    read_plan a b e = read_understood 0 (set (set words 0 a) 1 b) (rw e) (rw e (two_words words a b room))
-
   -- `sholakpite_read` has one outcome
   pub read_call_pinned : (n n' : ℕ) (s s' c c' w w' : List ℕ) → AnsweredRead log startup cycle words n s c w
       → AnsweredRead log startup cycle words n' s' c' w' → (n ≡ n') × (s ≡ s') × (c ≡ c') × (w ≡ w')

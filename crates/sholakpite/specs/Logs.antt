@@ -1,8 +1,9 @@
 -- The log of plans for callers in C and Rust. Request #104.
-use Rattle.std.specs.Prelude.{◌≡◌, cond, List, [], ◌∷◌, ◌++◌, ℕ, ltb, length, drop}
-use Rattle.packing.specs.declared.Appended.{Appended}
+use Rattle.std.specs.Prelude.{◌≡◌, cond, List, [], ◌∷◌, ◌++◌, ℕ, ltb, length, drop, Result}
+use Rattle.packing.specs.declared.NoRoom.{NoRoom}
 use Rattle.packing.specs.Packing as packing
-use Rattle.unpacking.specs.declared.Found.{Found}
+use Rattle.unpacking.specs.declared.Lengths.{Lengths}
+use Rattle.unpacking.specs.declared.NoPlan.{NoPlan}
 use Rattle.unpacking.specs.Unpacking as unpacking
 use Rattle.words.specs.Words.{not_understood}
 use Rattle.plan_log.specs.Log.{AppendedAs, ReadAs}
@@ -27,7 +28,7 @@ length_count = 2
 
 -- `log` is the buffer as it was lent, `left` as it is left, n what is answered
 pub record AnsweredAppend (log : List ℕ) (used : ℕ) (startup cycle : List ℕ) (n : ℕ) (left : List ℕ) : Type 0 where
-  pub answer : Appended
+  pub answer : Result ℕ NoRoom
   pub appended : AppendedAs log used startup cycle answer left
   pub is_code : n ≡ append_code (packing.reply answer)
 
@@ -40,7 +41,7 @@ module _ (log startup cycle words : List ℕ) (n : ℕ) (s c w : List ℕ) where
     pub words_unchanged : w ≡ words
 
   pub record Understood : Type 0 where
-    pub answer : Found
+    pub answer : Result Lengths NoPlan
     pub read_as : ReadAs log startup cycle answer s c
     pub is_code : n ≡ read_code (unpacking.reply answer)
     pub is_written : w ≡ length_words (unpacking.reply answer) ++ drop (length (length_words (unpacking.reply answer))) words

@@ -1,8 +1,6 @@
 // The log of plans for callers in C and Rust. Request #104.
 ghost use Rattle.sholakpite.specs.Logs.{AnsweredAppend, AnsweredRead};
 
-use packing::Appended;
-use unpacking::Found;
 use words::NOT_UNDERSTOOD;
 
 // The words that a plan's two lengths take.
@@ -14,8 +12,8 @@ pub extern "C" fn sholakpite_append(log: &mut [u8], used: u64, startup: &[u8], c
     ensures { AnsweredAppend log.old used startup.now cycle.now result log.new }
 {
     match plan_log::append(log, used as usize, startup, cycle) {
-        Appended::Used(n) => n as u64,
-        Appended::Refused => 23,
+        Ok(n) => n as u64,
+        Err(refused) => refused.number() as u64,
     }
 }
 
@@ -33,13 +31,11 @@ pub extern "C" fn sholakpite_read(
         return NOT_UNDERSTOOD;
     }
     match plan_log::read(log, startup, cycle) {
-        Found::Plan(s, c) => {
-            lengths[0] = s as u64;
-            lengths[1] = c as u64;
+        Ok(plan) => {
+            lengths[0] = plan.startup as u64;
+            lengths[1] = plan.cycle as u64;
             0
         }
-        Found::Nothing => 20,
-        Found::Damaged => 21,
-        Found::Short => 22,
+        Err(none) => none.number() as u64,
     }
 }

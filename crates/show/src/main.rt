@@ -9,25 +9,15 @@ use std::io;
 use task::Task;
 use task::list::Tasks;
 
-fn word(rt: &impl Print, text: &str) -> io::Result<()> {
-    rt.print(text)
-}
-
-fn named(rt: &impl Print, name: &str, x: usize) -> io::Result<()> {
-    print!(rt; "{name} {x}")
-}
-
 fn pair(rt: &impl Print, name: &str, a: usize, b: usize) -> io::Result<()> {
-    named(rt, name, a)?;
-    named(rt, "", b)?;
-    word(rt, "\n")
+    println!(rt; "{name} {a} {b}")
 }
 
 fn counts(rt: &impl Print, plan: Plan) -> io::Result<()> {
-    named(rt, "feasible M", plan.latest)?;
-    named(rt, " H", plan.hyperperiod)?;
-    named(rt, " L", plan.load)?;
-    word(rt, "\n")
+    println!(rt;
+        "feasible M {} H {} L {}",
+        plan.latest, plan.hyperperiod, plan.load
+    )
 }
 
 fn say(rt: &impl Print, said: Answer) -> io::Result<()> {
@@ -41,18 +31,18 @@ fn say(rt: &impl Print, said: Answer) -> io::Result<()> {
 
 fn entry(rt: &impl Print, b: u8) -> io::Result<()> {
     if b == IDLE {
-        word(rt, " -")
+        print!(rt; " -")
     } else {
-        named(rt, "", b as usize)
+        print!(rt; " {b}")
     }
 }
 
 fn table(rt: &impl Print, name: &str, entries: &[u8]) -> io::Result<()> {
-    word(rt, name)?;
-    for i in 0..entries.len() {
-        entry(rt, entries[i])?;
+    print!(rt; "{name}")?;
+    for b in entries {
+        entry(rt, *b)?;
     }
-    word(rt, "\n")
+    println!(rt;)
 }
 
 // Only a feasible answer has counts.
@@ -71,12 +61,11 @@ fn rest(rt: &impl Print, said: Answer) -> io::Result<()> {
 
 // The slot of any instant, looked up in the tables.
 fn slot(rt: &impl Print, startup: &[u8], cycle: &[u8], t: usize) -> io::Result<()> {
-    named(rt, "slot", t)?;
-    let part = lookup::lookup(startup, cycle, t);
-    if 0 < part.len() {
-        entry(rt, part[0])?;
+    print!(rt; "slot {t}")?;
+    if let Some(b) = lookup::lookup(startup, cycle, t).first() {
+        entry(rt, *b)?;
     }
-    word(rt, "\n")
+    println!(rt;)
 }
 
 fn main(rt: HostRuntime) -> io::Result<()> {
