@@ -10,8 +10,7 @@ use lib.Dec.{ltb}
 use lib.ListN.{length, set, drop, length-append}
 use lib.Seq.{sets, sets-eq, set_out, length-sets}
 use borrow.Author.Tests.{lt-ltb, le-ltb}
-use Rattle.decimal.specs.declared.Written.{Written}
-use Rattle.decimal.specs.declared.Written.TheVariants.{Length, Short}
+use Rattle.std.specs.Prelude.{Option, Some, None}
 use Rattle.task.specs.Limits.{largest}
 use Rattle.decimal.specs.Laying.{Laid, Wrote, either_way}
 
@@ -71,16 +70,16 @@ module _ {n : ℕ} {text none : List ℕ} (buffer : List ℕ) (small : length bu
   pub is_room : n ≤ length buffer → length text ≤ length buffer
   is_room h = omega (arith, measured.place)
 
-  pub wrote_short : length buffer < n → Wrote text buffer Short buffer
+  pub wrote_short : length buffer < n → Wrote text buffer None buffer
   wrote_short h = simp (lt-ltb (length buffer) (length text) (is_short h)) (record { is_short = refl; kept = refl })
 
-  pub wrote_whole : {m : ℕ} {left : List ℕ} → n ≤ length buffer → Laid 0 text buffer m left → Wrote text buffer (Length m) left
+  pub wrote_whole : {m : ℕ} {left : List ℕ} → n ≤ length buffer → Laid 0 text buffer m left → Wrote text buffer (Some m) left
   wrote_whole h laid =
       let w = laid_whole (omega arith) (is_room h) laid in
-      simp (le-ltb (length buffer) (length text) (is_room h)) (record { is_length = ap Length w.0; later_kept = w.1 })
+      simp (le-ltb (length buffer) (length text) (is_room h)) (record { is_length = ap Some w.0; later_kept = w.1 })
 
 -- the length that is answered counts bytes of the buffer
-pub wrote_counts : {n : ℕ} (text buffer : List ℕ) (r : Written) (left : List ℕ) → Wrote text buffer r left → r ≡ Length n → n ≤ length left
+pub wrote_counts : {n : ℕ} (text buffer : List ℕ) (r : Option ℕ) (left : List ℕ) → Wrote text buffer r left → r ≡ Some n → n ≤ length left
 wrote_counts {n} text buffer r left w e = go (ltb (length buffer) (length text)) w
   where
     go : (short : Bool) → either_way short text buffer r left → n ≤ length left

@@ -5,10 +5,10 @@ use mathlib.Core.List.{List}
 use Prim.Native.Nat.{ℕ}
 use lib.Dec.{ltb}
 use lib.ListN.{length}
-use Rattle.decimal.specs.declared.Written.{Written}
+use Rattle.std.specs.Prelude.{Option}
 use Rattle.decimal.specs.Laying.{Wrote, either_way}
 
-pub wrote_pinned : (text buffer : List ℕ) (r r' : Written) (left left' : List ℕ) →
+pub wrote_pinned : (text buffer : List ℕ) (r r' : Option ℕ) (left left' : List ℕ) →
     Wrote text buffer r left → Wrote text buffer r' left' → (r ≡ r') × (left ≡ left')
 wrote_pinned text buffer r r' left left' = go (ltb (length buffer) (length text))
   where

@@ -6,39 +6,25 @@ ghost use Rattle.decimal.specs.Decimal.{decimal, digit};
 ghost use Rattle.task.specs.Limits.{largest};
 ghost use Rattle.decimal.specs.Laying.{Laid};
 
-// What comes of a text and a lent buffer: the text's length, or that the buffer is shorter and nothing is written.
-#[derive(Clone, Copy)]
-pub enum Written {
-    Length(usize),
-    Short,
-}
-
 const BASE: usize = 10;
 
-// A byte at its place, if the buffer has one. Each answers the place after what it lays.
+// A byte at its place, if the buffer has one. Each answers the place after what it lays; after one that no buffer has
+// it may be any, and does not wrap.
 pub fn byte(out: &mut [u8], at: usize, b: u8) -> usize
     ensures { Laid at (b ∷ []) out.old result out.new }
 {
-    if out.len() <= at {
-        return after(at);
+    if at < out.len() {
+        out[at] = b;
     }
-    out[at] = b;
-    at + 1
-}
-
-// The place after one that no buffer has may be any; it does not wrap.
-fn after(at: usize) -> usize
-    ensures { result ≡ min (suc at) largest }
-{
-    if at < usize::MAX { at + 1 } else { at }
+    at.saturating_add(1)
 }
 
 pub fn word(out: &mut [u8], at: usize, text: &[u8]) -> usize
     ensures { Laid at text.now out.old result out.new }
 {
     let mut next = at;
-    for i in 0..text.len() {
-        next = byte(out, next, text[i]);
+    for b in text {
+        next = byte(out, next, *b);
     }
     next
 }

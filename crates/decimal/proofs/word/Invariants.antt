@@ -1,8 +1,7 @@
 -- `word` meets its contract: byte after byte.
-use Prim.Native.Nat.{◌≤◌}
-use lib.ListN.{length, take}
+use lib.ListN.{take}
 use Rattle.decimal.specs.Laying.{Laid}
 use Rattle.decimal.proofs.word.Given as goal
 
-abbrev pub invariant-loop-i : goal.invariant-loop-i
-invariant-loop-i l = (l.i ≤ length l.text) × Laid l.at (take l.i l.text) l.initial.out l.next l.out
+abbrev pub invariant-loop-b : goal.invariant-loop-b
+invariant-loop-b l = Laid l.at (take l.b-index l.text) l.initial.out l.next l.out
