@@ -1,15 +1,17 @@
 -- Where a mark stands, what stands behind it, and whether two texts are the same.
-use mathlib.Core.Path.{◌≡◌, refl, sym, ap}
-use mathlib.Core.Bool.{Bool, true, false, ◌&&◌, true≢false}
+use mathlib.Core.Path.{◌≡◌, refl, sym}
+use Rattle.std.specs.Prelude.{position, unwrap_or}
+use Rattle.std.specs.List.{position_or_len}
+use native.Mathlib.Decide.{dec_lt}
+use mathlib.Core.Bool.{Bool, true, false, not, cond}
 use mathlib.Core.List.{List, [], ◌∷◌}
 use Prim.Native.Nat.{ℕ, suc, ◌+◌, ◌-◌, ◌≤◌, ◌<◌}
 use native.Mathlib.Omega.{arith}
-use native.Mathlib.Numerals.{add-one}
 use lib.Dec.{eqb}
-use lib.ListN.{length, take, drop, get_or, length-drop, drop_of_length-le}
-use lib.Seq.{take_all, drop-cons, drop-length, length-take-le}
-use borrow.Author.Tests.{eq-eqb, ne_eqb}
-use Rattle.line.specs.Lines.{begin, parts, same}
+use lib.ListN.{length, take, drop, length-drop, drop_of_length-le}
+use lib.Seq.{take_all, drop-cons, length-take-le}
+use borrow.Author.Tests.{lt-ltb, le-ltb}
+use Rattle.line.specs.Lines.{begin, parts}
 use Rattle.line.specs.Places.{suc_unless, until}
 
 pub until_le : (mark : ℕ) (s : List ℕ) → until mark s ≤ length s
@@ -20,39 +22,23 @@ until_le mark (b ∷ s) = go (eqb b mark) (until_le mark s)
     go true h = omega arith
     go false h = omega arith
 
-module _ (mark : ℕ) (s : List ℕ) (i : ℕ) (inside : i < length s) where
-  pub until_found : get_or s i 0 ≡ mark → until mark (drop i s) ≡ 0
-  until_found e = rw (drop-cons s i 0 inside, eq-eqb (get_or s i 0) mark e)
-
-  pub until_past : (get_or s i 0 ≡ mark → ⊥) → until mark (drop i s) ≡ suc (until mark (drop (i + 1) s))
-  until_past n = rw (add-one, drop-cons s i 0 inside, ne_eqb (get_or s i 0) mark n)
-
-pub until_end : (mark : ℕ) (s : List ℕ) → until mark (drop (length s) s) ≡ 0
-until_end mark s = rw drop-length
-
-pub same_length : (s t : List ℕ) → same s t ≡ true → length s ≡ length t
-same_length [] [] e = refl
-same_length [] (c ∷ t) e = absurd (true≢false (sym e))
-same_length (b ∷ s) [] e = absurd (true≢false (sym e))
-same_length (b ∷ s) (c ∷ t) e = go (eqb b c) e (same_length s t)
+-- the first byte that is the mark
+until_position : (mark : ℕ) (s : List ℕ) → position_or_len (λ b. eqb b mark) s ≡ until mark s
+until_position mark [] = refl
+until_position mark (b ∷ s) = go (eqb b mark) (until_position mark s)
   where
-    go : (q : Bool) → (q && same s t) ≡ true → (same s t ≡ true → length s ≡ length t) → suc (length s) ≡ suc (length t)
-    go true e rest = ap suc (rest e)
-    go false e rest = absurd (true≢false (sym e))
+    go : (t : Bool) → position_or_len (λ b. eqb b mark) s ≡ until mark s
+        → cond (not t) (1 + position_or_len (λ b. eqb b mark) s) 0 ≡ suc_unless t (until mark s)
+    go true e = refl
+    go false e = rw e (omega arith)
 
-module _ (s t : List ℕ) (i : ℕ) (inside : i < length s) (also : i < length t) where
-  pub same_past : get_or s i 0 ≡ get_or t i 0 → same (drop i s) (drop i t) ≡ same (drop (i + 1) s) (drop (i + 1) t)
-  same_past e = rw (add-one, drop-cons s i 0 inside, drop-cons t i 0 also, eq-eqb (get_or s i 0) (get_or t i 0) e)
-
-  pub same_not : (get_or s i 0 ≡ get_or t i 0 → ⊥) → same (drop i s) (drop i t) ≡ false
-  same_not n = rw (drop-cons s i 0 inside, drop-cons t i 0 also, ne_eqb (get_or s i 0) (get_or t i 0) n)
-
-pub same_lengths : (s t : List ℕ) → (length s ≡ length t → ⊥) → same s t ≡ false
-same_lengths s t n = go (same s t) refl
-  where
-    go : (q : Bool) → same s t ≡ q → q ≡ false
-    go true e = absurd (n (same_length s t e))
-    go false e = refl
+pub until_first : (mark : ℕ) (s : List ℕ) → unwrap_or (position (λ b. eqb b mark) s) (length s) ≡ until mark s
+until_first mark s =
+    rw (until_position mark s)
+    (elim (dec_lt (until mark s) (length s)) [
+      | yes h ↦ rw (lt-ltb (until mark s) (length s) h)
+      | no h ↦ rw (le-ltb (until mark s) (length s) (omega arith)) (omega (arith, until_le mark s))
+    ])
 
 -- what is left of a text behind the place i
 pub rest_is : (s : List ℕ) (i : ℕ) → take (length s - i) (drop i s) ≡ drop i s

@@ -1,8 +1,6 @@
 -- Lines, fields and numbers of a text. Request #101.
-use Rattle.std.specs.Prelude.{Bool, true, false, ◌&&◌, List, [], ◌∷◌, ℕ, ◌+◌, ◌*◌, ◌-◌, eqb, leb, ltb}
+use Rattle.std.specs.Prelude.{Bool, true, false, ◌&&◌, List, [], ◌∷◌, ℕ, ◌+◌, ◌*◌, ◌-◌, eqb, leb, ltb, Option, Some, None}
 use Rattle.decimal.specs.Decimal.{nought, digit}
-use Rattle.line.specs.declared.number.Number.{Number}
-use Rattle.line.specs.declared.number.Number.TheVariants.{Of, Not}
 
 -- the largest number that is read
 abbrev pub largest_number : ℕ
@@ -28,21 +26,21 @@ same (b ∷ s) (c ∷ t) = eqb b c && same s t
 abbrev pub is_digit : ℕ → Bool
 is_digit b = leb nought b && leb b (digit 9)
 
-abbrev pub number_if : Bool → Number → Number
+abbrev pub number_if : Bool → Option ℕ → Option ℕ
 number_if true n = n
-number_if false n = Not
+number_if false n = None
 
 -- the number that v, and digits after it, say
-abbrev pub value_on : ℕ → List ℕ → Number
-value_on v [] = Of v
+abbrev pub value_on : ℕ → List ℕ → Option ℕ
+value_on v [] = Some v
 value_on v (b ∷ s) = number_if (is_digit b) (value_on (v * 10 + (b - nought)) s)
 
-abbrev pub within : Number → Number
-within (Of v) = number_if (leb v largest_number) (Of v)
-within Not = Not
+abbrev pub within : Option ℕ → Option ℕ
+within (Some v) = number_if (leb v largest_number) (Some v)
+within None = None
 
 -- 0 to 999,999 without leading zeros: of several digits the first is above 0
-abbrev pub number_of : List ℕ → Number
-number_of [] = Not
+abbrev pub number_of : List ℕ → Option ℕ
+number_of [] = None
 number_of (b ∷ []) = within (value_on 0 (b ∷ []))
 number_of (b ∷ c ∷ s) = number_if (ltb nought b) (within (value_on 0 (b ∷ c ∷ s)))

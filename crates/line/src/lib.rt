@@ -8,42 +8,29 @@ ghost use Rattle.std.specs.Prelude.{◌≡◌};
 ghost use Rattle.line.specs.Lines.{largest_number};
 ghost use Rattle.line.specs.Kinds.{first_of, is_card, line_of};
 
-use crate::field::{Field, SPACE, before, number_after, same};
+use crate::field::{SPACE, before, number_after, same};
 use schedule::Policy;
 use task::Task;
 
 // The largest number that is read.
 pub const LARGEST_NUMBER: usize = 999_999;
 
-#[derive(Clone, Copy)]
-pub enum First {
-    Policy(Policy),
-    Unread,
-}
-
-#[derive(Clone, Copy)]
-pub enum Line {
-    Task(Task),
-    Unread,
-}
-
 // `policy` and its name.
-pub fn policy_of(line: &[u8]) -> First
+pub fn policy_of(line: &[u8]) -> Option<Policy>
     ensures { result ≡ first_of line.now }
 {
+    // A `match` on byte strings would tell the proof their lengths alone.
     if same(line, b"policy list") {
-        return First::Policy(Policy::ListOrder);
+        Some(Policy::ListOrder)
+    } else if same(line, b"policy rm") {
+        Some(Policy::RateMonotonic)
+    } else if same(line, b"policy dm") {
+        Some(Policy::DeadlineMonotonic)
+    } else if same(line, b"policy edf") {
+        Some(Policy::Edf)
+    } else {
+        None
     }
-    if same(line, b"policy rm") {
-        return First::Policy(Policy::RateMonotonic);
-    }
-    if same(line, b"policy dm") {
-        return First::Policy(Policy::DeadlineMonotonic);
-    }
-    if same(line, b"policy edf") {
-        return First::Policy(Policy::Edf);
-    }
-    First::Unread
 }
 
 // `card small`: a wide card has no line.
@@ -54,29 +41,21 @@ pub fn is_card(line: &[u8]) -> bool
 }
 
 // `task` and four numbers, and no more.
-pub fn task_of(line: &[u8]) -> Line
+pub fn task_of(line: &[u8]) -> Option<Task>
     ensures { result ≡ line_of line.now }
 {
     let word = before(line, SPACE);
     if !same(&line[..word], b"task") {
-        return Line::Unread;
+        return None;
     }
-    let Field::Ends(offset, a) = number_after(line, word) else {
-        return Line::Unread;
-    };
-    let Field::Ends(run, b) = number_after(line, a) else {
-        return Line::Unread;
-    };
-    let Field::Ends(deadline, c) = number_after(line, b) else {
-        return Line::Unread;
-    };
-    let Field::Ends(period, d) = number_after(line, c) else {
-        return Line::Unread;
-    };
-    if d < line.len() {
-        return Line::Unread;
+    let offset = number_after(line, word)?;
+    let run = number_after(line, offset.end)?;
+    let deadline = number_after(line, run.end)?;
+    let period = number_after(line, deadline.end)?;
+    if period.end < line.len() {
+        return None;
     }
-    Line::Task(Task::new(offset, run, deadline, period))
+    Some(Task::new(offset.number, run.number, deadline.number, period.number))
 }
 
 // Ties the limit to the number of specs/.

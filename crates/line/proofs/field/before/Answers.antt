@@ -1,32 +1,17 @@
--- `before` meets its contract: no byte so far is the mark.
-use mathlib.Core.Path.{◌≡◌}
-use Prim.Native.Nat.{◌+◌}
-use native.Mathlib.Omega.{arith}
-use lib.ListN.{length, drop}
-use borrow.Author.Rules.{rules}
-use Rattle.line.specs.Places.{until}
-use Rattle.line.proofs.Places.{until_found, until_past, until_end}
+-- `before` meets its contract: the first mark, or the end.
+use mathlib.Core.Path.{◌≡◌, ◌∙◌, ap}
+use lib.ListN.{length}
+use lib.Dec.{eqb}
+use Rattle.std.proofs.Common.{rules, tests, position, unwrap_or, Option, ℕ}
+use Rattle.std.proofs.lemmas.Iterator.{YieldsList-from_slice}
+use Rattle.std.proofs.lemmas.Iterator.Search.{position_from_yields_List}
+use Rattle.line.proofs.Places.{until_first}
 use Rattle.line.proofs.field.before.Goals as goal
-
-pub loop-i-init : goal.loop-i-init
-loop-i-init c = (omega arith, omega arith)
-
-pub returns-then-s-i : goal.returns-then-s-i
-returns-then-s-i c =
-    let l = c.loop-i in
-    let x = c.args in
-    omega (arith, l.invariant.1, until_found x.mark x.s.now l.i (search rules) c.if-s-i.true)
-
-pub loop-i-preserved : goal.loop-i-preserved
-loop-i-preserved c =
-    let l = c.loop-i in
-    let x = c.args in
-    (omega arith, omega (arith, l.invariant.1, until_past x.mark x.s.now l.i (search rules) c.if-s-i.false))
 
 pub returns : goal.returns
 returns c =
-    let l = c.loop-i in
     let x = c.args in
-    let e : l.i ≡ length x.s.now = omega arith in
-    let f : until x.mark x.s.now ≡ length x.s.now + until x.mark (drop (length x.s.now) x.s.now) = rw e at l.invariant.1 in
-    omega (arith, f, until_end x.mark x.s.now)
+    let found : c.position.result ≡ position (λ b. eqb b x.mark) x.s.now =
+    position_from_yields_List (λ b. eqb b x.mark) _ _ c.position.result c.position.ensures.ran (YieldsList-from_slice _ c.iter.ensures.rest)
+    (λ x b q k. search (rules, tests)) in
+    c.unwrap_or.ensures ∙ ap (λ (r : Option ℕ). unwrap_or r (length x.s.now)) found ∙ until_first x.mark x.s.now
