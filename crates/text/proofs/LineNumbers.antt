@@ -12,10 +12,7 @@ use Rattle.card.specs.declared.Card.TheVariants.{Wide, Small}
 use Rattle.task.specs.declared.Task.{Task}
 use Rattle.schedule.specs.declared.Policy.{Policy}
 use Rattle.decimal.specs.Bytes.{newline}
-use Rattle.line.specs.declared.First.{First}
-use Rattle.line.specs.declared.First.TheVariants.{Policy as policyLine, Unread as noPolicyLine}
-use Rattle.line.specs.declared.Line.{Line}
-use Rattle.line.specs.declared.Line.TheVariants.{Task as taskLine, Unread as noTaskLine}
+use Rattle.std.specs.Prelude.{Option, Some, None}
 use Rattle.line.specs.Lines.{begin, parts}
 use Rattle.line.specs.Kinds.{first_of, is_card, line_of}
 use Rattle.text.specs.Reading.{Reading, unread, most_bytes, with_task, at_end, tasks_on, small_if, card_on, with_policy, lines_of, unless_long, reading}
@@ -41,9 +38,9 @@ end_most : (c : Card) (p : Policy) (l : List Task) (m last : ℕ) (line : List �
 end_most c p l m last [] h = λ n e. never (cc)
 end_most c p l m last (b ∷ line) h = said m last h
 
-with_most : (line : Line) (m last : ℕ) (rest : Task → Reading) → m ≤ last → ((τ : Task) → Most last (rest τ)) → Most last (with_task line m rest)
-with_most noTaskLine m last rest h more = said m last h
-with_most (taskLine τ) m last rest h more = more τ
+with_most : (line : Option Task) (m last : ℕ) (rest : Task → Reading) → m ≤ last → ((τ : Task) → Most last (rest τ)) → Most last (with_task line m rest)
+with_most None m last rest h more = said m last h
+with_most (Some τ) m last rest h more = more τ
 
 tasks_most : (c : Card) (p : Policy) (l : List Task) (m last : ℕ) (line : List ℕ) (lines : List (List ℕ)) → m + length lines ≤ last →
     Most last (tasks_on c p l m (line ∷ lines))
@@ -63,9 +60,9 @@ card_most p last line (more ∷ lines) h =
     (tasks_most Small p [] 3 last more lines (omega arith))
     (tasks_most Wide p [] 2 last line (more ∷ lines) (omega arith))
 
-policy_most : (first : First) (last : ℕ) (rest : Policy → Reading) → 1 ≤ last → ((p : Policy) → Most last (rest p)) → Most last (with_policy first rest)
-policy_most noPolicyLine last rest h more = said 1 last h
-policy_most (policyLine p) last rest h more = more p
+policy_most : (first : Option Policy) (last : ℕ) (rest : Policy → Reading) → 1 ≤ last → ((p : Policy) → Most last (rest p)) → Most last (with_policy first rest)
+policy_most None last rest h more = said 1 last h
+policy_most (Some p) last rest h more = more p
 
 lines_most : (lines : List (List ℕ)) (last : ℕ) → 1 ≤ last → length lines ≤ last → Most last (lines_of lines)
 lines_most [] last some h = said 1 last some

@@ -1,9 +1,10 @@
--- What the reader hands back for a reading: what it found, and the list in our own array.
-use Rattle.task.specs.Arrays.{empty, array_of}
-use Rattle.text.specs.declared.Found.TheVariants.{Unread, Listed}
-use Rattle.text.specs.declared.Contents.{Contents}
+-- What the reader hands back for a reading: the list in our own array, or the line.
+use Rattle.std.specs.Prelude.{Result, Ok, Err}
+use Rattle.task.specs.Arrays.{array_of}
+use Rattle.text.specs.declared.Listed.{Listed}
+use Rattle.text.specs.declared.Unread.{Unread}
 use Rattle.text.specs.Reading.{Reading, unread, listed}
 
-abbrev pub held : Reading → Contents
-held (unread n) = record { found = Unread n; tasks = empty }
-held (listed card p l) = record { found = Listed card p; tasks = array_of l }
+abbrev pub held : Reading → Result Listed Unread
+held (unread n) = Err (record { line = n })
+held (listed c p l) = Ok (record { card = c; policy = p; tasks = array_of l })

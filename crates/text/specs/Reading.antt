@@ -1,14 +1,10 @@
 -- The list as text, read line by line. Requests #101 and #105.
-use Rattle.std.specs.Prelude.{Bool, true, false, List, [], ◌∷◌, ◌++◌, ℕ, suc, ltb, length}
+use Rattle.std.specs.Prelude.{Bool, true, false, List, [], ◌∷◌, ◌++◌, ℕ, suc, ltb, length, Option, Some, None}
 use Rattle.card.specs.declared.Card.{Card}
 use Rattle.card.specs.declared.Card.TheVariants.{Wide, Small}
 use Rattle.task.specs.declared.Task.{Task}
 use Rattle.schedule.specs.declared.Policy.{Policy}
 use Rattle.decimal.specs.Bytes.{newline}
-use Rattle.line.specs.declared.First.{First}
-use Rattle.line.specs.declared.First.TheVariants.{Policy as policyLine, Unread as noPolicyLine}
-use Rattle.line.specs.declared.Line.{Line}
-use Rattle.line.specs.declared.Line.TheVariants.{Task as taskLine, Unread as noTaskLine}
 use Rattle.line.specs.Lines.{parts}
 use Rattle.line.specs.Kinds.{first_of, is_card, line_of}
 
@@ -21,9 +17,9 @@ pub data Reading : Type 0 where
   unread : ℕ → Reading
   listed : Card → Policy → List Task → Reading
 
-abbrev pub with_task : Line → ℕ → (Task → Reading) → Reading
-with_task noTaskLine n rest = unread n
-with_task (taskLine τ) n rest = rest τ
+abbrev pub with_task : Option Task → ℕ → (Task → Reading) → Reading
+with_task None n rest = unread n
+with_task (Some τ) n rest = rest τ
 
 -- after the last newline there is nothing, or a line that has none
 abbrev pub at_end : Card → Policy → List Task → ℕ → List ℕ → Reading
@@ -46,9 +42,9 @@ card_on p [] = unread 2
 card_on p (line ∷ []) = tasks_on Wide p [] 2 (line ∷ [])
 card_on p (line ∷ more ∷ lines) = small_if (is_card line) (tasks_on Small p [] 3 (more ∷ lines)) (tasks_on Wide p [] 2 (line ∷ more ∷ lines))
 
-abbrev pub with_policy : First → (Policy → Reading) → Reading
-with_policy noPolicyLine rest = unread 1
-with_policy (policyLine p) rest = rest p
+abbrev pub with_policy : Option Policy → (Policy → Reading) → Reading
+with_policy None rest = unread 1
+with_policy (Some p) rest = rest p
 
 abbrev pub lines_of : List (List ℕ) → Reading
 lines_of [] = unread 1

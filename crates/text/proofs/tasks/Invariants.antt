@@ -1,11 +1,10 @@
 -- `tasks` meets its contract: line after line, with the tasks so far in the array.
-use Prim.Native.Nat.{◌-◌}
 use lib.ListN.{length}
 use Rattle.text.proofs.Reading.{Reads}
 use Rattle.text.proofs.tasks.Given as goal
 
-abbrev pub invariant-loop-at : goal.invariant-loop-at
-invariant-loop-at l = Reads l.s l.card l.policy l.from l.first l.at l.n l.own
+abbrev pub invariant-loop-rest : goal.invariant-loop-rest
+invariant-loop-rest l = Reads l.s l.card l.policy l.first l.rest l.n l.tasks
 
-abbrev pub decreases-loop-at : goal.decreases-loop-at
-decreases-loop-at l = length l.s - l.at
+abbrev pub decreases-loop-rest : goal.decreases-loop-rest
+decreases-loop-rest l = length l.rest
