@@ -15,12 +15,7 @@ use Rattle.schedule.specs.declared.Policy.{Policy}
 use Rattle.schedule.specs.declared.Policy.TheVariants.{ListOrder, RateMonotonic, DeadlineMonotonic, Edf}
 use Rattle.decimal.specs.Bytes.{bytes, newline, space}
 use Rattle.decimal.specs.Decimal.{decimal}
-use Rattle.line.specs.declared.number.Number.{Number}
-use Rattle.line.specs.declared.number.Number.TheVariants.{Of, Not}
-use Rattle.line.specs.declared.First.{First}
-use Rattle.line.specs.declared.First.TheVariants.{Policy as policyLine, Unread as noPolicyLine}
-use Rattle.line.specs.declared.Line.{Line}
-use Rattle.line.specs.declared.Line.TheVariants.{Task as taskLine, Unread as noTaskLine}
+use Rattle.std.specs.Prelude.{Option, Some, None}
 use Rattle.line.specs.Lines.{largest_number, parts, same, number_of}
 use Rattle.line.specs.Kinds.{policy_text, card_text, is_card, first_if, first_of, line_if, with_number, next, last, task_fields, line_of}
 use Rattle.text.specs.Reading.{most_bytes, Reading, with_task, tasks_on, small_if, card_on, with_policy, lines_of, unless_long, reading, listed}
@@ -40,28 +35,28 @@ same_is (b ∷ s) (c ∷ t) e = go (eqb b c) refl e (same_is s t)
     go false q e tail = never (cc)
 
 -- the next field of a task's line is a decimal
-next_is : (τ : Task) (Is : List (List ℕ) → Type 0) {rest : ℕ → List (List ℕ) → Line}
-    → ((v : ℕ) → v ≤ largest_number → (more : List (List ℕ)) → rest v more ≡ taskLine τ → Is (decimal v ∷ more))
-    → (all : List (List ℕ)) → next all rest ≡ taskLine τ → Is all
+next_is : (τ : Task) (Is : List (List ℕ) → Type 0) {rest : ℕ → List (List ℕ) → Option Task}
+    → ((v : ℕ) → v ≤ largest_number → (more : List (List ℕ)) → rest v more ≡ Some τ → Is (decimal v ∷ more))
+    → (all : List (List ℕ)) → next all rest ≡ Some τ → Is all
 next_is τ Is {rest} is [] e = never (cc)
 next_is τ Is {rest} is (field ∷ more) e = go (number_of field) refl e
   where
-    go : (n : Number) → number_of field ≡ n → with_number n (λ v. rest v more) ≡ taskLine τ → Is (field ∷ more)
-    go Not q e = never (cc)
-    go (Of v) q e = let f = number_is field v q in rw f.0 (is v f.1 more e)
+    go : (n : Option ℕ) → number_of field ≡ n → with_number n (λ v. rest v more) ≡ Some τ → Is (field ∷ more)
+    go None q e = never (cc)
+    go (Some v) q e = let f = number_is field v q in rw f.0 (is v f.1 more e)
 
-last_is : (σ τ : Task) (Is : Task → List (List ℕ) → Type 0) → Is σ [] → (more : List (List ℕ)) → last σ more ≡ taskLine τ → Is τ more
+last_is : (σ τ : Task) (Is : Task → List (List ℕ) → Type 0) → Is σ [] → (more : List (List ℕ)) → last σ more ≡ Some τ → Is τ more
 last_is σ τ Is is [] e = let same : σ ≡ τ = cc in rw (← same) is
 last_is σ τ Is is (field ∷ more) e = never (cc)
 
-line_if_lem : (c : Bool) (line : Line) (τ : Task) → line_if c line ≡ taskLine τ → (c ≡ true) × (line ≡ taskLine τ)
+line_if_lem : (c : Bool) (line : Option Task) (τ : Task) → line_if c line ≡ Some τ → (c ≡ true) × (line ≡ Some τ)
 line_if_lem true line τ e = (refl, e)
 line_if_lem false line τ e = never (cc)
 
 abbrev Are : Task → List (List ℕ) → Type 0
 Are τ all = (all ≡ fields τ) × Readable τ
 
-fields_are : (all : List (List ℕ)) (τ : Task) → task_fields all ≡ taskLine τ → Are τ all
+fields_are : (all : List (List ℕ)) (τ : Task) → task_fields all ≡ Some τ → Are τ all
 fields_are [] τ e = never (cc)
 fields_are (word ∷ all) τ e =
     let is-task = line_if_lem (same word (bytes "task")) _ τ e in
@@ -74,7 +69,7 @@ fields_are (word ∷ all) τ e =
     (refl, record { offset_small = o; run_small = c; deadline_small = d; period_small = t })))))
     all is-task.1)
 
-line_is : (line : List ℕ) (τ : Task) → line_of line ≡ taskLine τ → (line ≡ line_text τ) × Readable τ
+line_is : (line : List ℕ) (τ : Task) → line_of line ≡ Some τ → (line ≡ line_text τ) × Readable τ
 line_is line τ e =
     let all = fields_are (parts space line) τ e in
     (sym (joined_parts space line) ∙ ap (joined space) all.0 ∙ sym (fields_joined τ), all.1)
@@ -98,10 +93,10 @@ tasks_are (line ∷ more ∷ lines) c p l n d q all e = go (line_of line) refl e
     reads : Task → Reading
     reads τ = tasks_on c p (l ++ τ ∷ []) (suc n) (more ∷ lines)
 
-    go : (read : Line) → line_of line ≡ read → with_task read n reads ≡ listed d q all
+    go : (read : Option Task) → line_of line ≡ read → with_task read n reads ≡ listed d q all
         → ((τ : Task) → reads τ ≡ listed d q all → Rest c p (l ++ τ ∷ []) (more ∷ lines) d q all) → Rest c p l (line ∷ more ∷ lines) d q all
-    go noTaskLine is e on = never (cc)
-    go (taskLine τ) is e on =
+    go None is e on = never (cc)
+    go (Some τ) is e on =
         let r = on τ e in
         let t = line_is line τ is in
         record {
@@ -134,20 +129,20 @@ cards_are (line ∷ more ∷ lines) q c p l e = go (is_card line) refl e
     go false is e = list_are Wide (line ∷ more ∷ lines) 2 q c p l e
 
 -- one policy's text, or what is tried after it
-first_if_lem : (line : List ℕ) (q p : Policy) (other : First) → (other ≡ policyLine p → line ≡ policy_text p)
-    → first_if (same line (policy_text q)) q other ≡ policyLine p → line ≡ policy_text p
+first_if_lem : (line : List ℕ) (q p : Policy) (other : Option Policy) → (other ≡ Some p → line ≡ policy_text p)
+    → first_if (same line (policy_text q)) q other ≡ Some p → line ≡ policy_text p
 first_if_lem line q p other on e = go (same line (policy_text q)) refl e
   where
-    go : (c : Bool) → same line (policy_text q) ≡ c → first_if c q other ≡ policyLine p → line ≡ policy_text p
+    go : (c : Bool) → same line (policy_text q) ≡ c → first_if c q other ≡ Some p → line ≡ policy_text p
     go true is e = let policy : q ≡ p = cc in same_is line (policy_text q) is ∙ ap policy_text policy
     go false is e = on e
 
-first_is : (line : List ℕ) (p : Policy) → first_of line ≡ policyLine p → line ≡ policy_text p
+first_is : (line : List ℕ) (p : Policy) → first_of line ≡ Some p → line ≡ policy_text p
 first_is line p =
     first_if_lem line ListOrder p _
     (first_if_lem line RateMonotonic p _
     (first_if_lem line DeadlineMonotonic p _
-    (first_if_lem line Edf p noPolicyLine λ e. never (cc))))
+    (first_if_lem line Edf p None λ e. never (cc))))
 
 lines_are : (lines : List (List ℕ)) (c : Card) (p : Policy) (l : List Task)
     → lines_of lines ≡ listed c p l → (lines ≡ policy_text p ∷ list_lines c l) × (any_large l ≡ false)
@@ -155,10 +150,10 @@ lines_are [] c p l e = never (cc)
 lines_are (line ∷ []) c p l e = never (cc)
 lines_are (line ∷ more ∷ lines) c p l e = go (first_of line) refl e
   where
-    go : (first : First) → first_of line ≡ first → with_policy first (λ q. card_on q (more ∷ lines)) ≡ listed c p l
+    go : (first : Option Policy) → first_of line ≡ first → with_policy first (λ q. card_on q (more ∷ lines)) ≡ listed c p l
         → (line ∷ more ∷ lines ≡ policy_text p ∷ list_lines c l) × (any_large l ≡ false)
-    go noPolicyLine is e = never (cc)
-    go (policyLine q) is e =
+    go None is e = never (cc)
+    go (Some q) is e =
         let r = cards_are (more ∷ lines) q c p l e in
         (ap₂ (λ a b. a ∷ b) (first_is line q is ∙ ap policy_text r.2) r.0, r.1)
 

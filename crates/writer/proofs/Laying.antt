@@ -1,11 +1,11 @@
 -- The text of a list, task by task, and whether a number of it is too large.
-use mathlib.Core.Path.{◌≡◌, sym, ◌∙◌, ap}
-use mathlib.Core.Bool.{true, false}
+use mathlib.Core.Path.{◌≡◌, refl, sym, ◌∙◌, ap}
 use mathlib.Core.List.{List, [], ◌∷◌, ◌++◌, append_assoc, append-nil}
-use Prim.Native.Nat.{ℕ, ◌+◌, ◌≤◌, ◌<◌}
+use Prim.Native.Nat.{ℕ, ◌+◌, ◌<◌}
 use native.Mathlib.Numerals.{add-one}
-use lib.ListN.{length, take, drop, drop_of_length-le}
-use lib.Seq.{take-suc, drop-cons, get_or-take, length-take-le}
+use lib.ListN.{length, take}
+use lib.Seq.{take-suc}
+use Rattle.std.specs.List.{list_any}
 use Rattle.task.specs.declared.Task.{Task}
 use Rattle.task.specs.Tasks.{nobody, task}
 use Rattle.writer.specs.Writing.{task_text, tasks_text, is_large, any_large}
@@ -19,16 +19,6 @@ text_next l i h =
     let e : take (i + 1) l ≡ take i l ++ task l i ∷ [] = rw add-one (take-suc l i nobody h) in
     ap tasks_text e ∙ text_more (take i l) (task l i)
 
--- what is left of the first n tasks from task i on
-module _ (l : List Task) (n i : ℕ) (b : n ≤ length l) where
-  left : i < n → drop i (take n l) ≡ task l i ∷ drop (i + 1) (take n l)
-  left h = rw (add-one, drop-cons (take n l) i nobody (rw length-take-le h), get_or-take)
-
-  pub any_found : i < n → is_large (task l i) ≡ true → any_large (drop i (take n l)) ≡ true
-  any_found h e = rw (left h, e)
-
-  pub any_past : i < n → is_large (task l i) ≡ false → any_large (drop i (take n l)) ≡ any_large (drop (i + 1) (take n l))
-  any_past h e = rw (left h, e)
-
-  pub any_none : n ≤ i → any_large (drop i (take n l)) ≡ false
-  any_none h = rw (drop_of_length-le (take n l) {i = i} (rw length-take-le h))
+pub any_is : (l : List Task) → list_any is_large l ≡ any_large l
+any_is [] = refl
+any_is (τ ∷ l) = rw (any_is l)

@@ -12,13 +12,13 @@ use Rattle.task.proofs.Refusing.{neither}
 use Rattle.schedule.specs.declared.Policy.{Policy}
 use Rattle.line.proofs.Parts.{never}
 use Rattle.text.specs.Reading.{reading, listed}
-use Rattle.writer.specs.declared.Saved.TheVariants.{Length}
+use Rattle.std.specs.Prelude.{Ok}
 use Rattle.writer.specs.Writing.{text, unwritable, either, SavedAs}
 use Rattle.writer.proofs.RoundTrip.{round_trip}
 
 module _ (c : Card) (p : Policy) (l : List Task) (buffer : List ℕ) (n : ℕ) (left : List ℕ) where
   -- the bytes that are answered for are the text
-  saved_text : (b : Bool) → (unwritable l || ltb (length buffer) (length (text c p l))) ≡ b → either c p l buffer (Length n) left b
+  saved_text : (b : Bool) → (unwritable l || ltb (length buffer) (length (text c p l))) ≡ b → either c p l buffer (Ok n) left b
       → reading (take n left) ≡ listed c p l
   saved_text true e x = never (cc x.is_refused)
   saved_text false e x =
@@ -30,5 +30,5 @@ module _ (c : Card) (p : Policy) (l : List Task) (buffer : List ℕ) (n : ℕ) (
       ap reading whole ∙ round_trip c p l (neither (unwritable l) (ltb (length buffer) (length (text c p l))) e).0
 
   -- reading what it wrote gives the same policy, card and list
-  pub written_read : SavedAs c p l buffer (Length n) left → reading (take n left) ≡ listed c p l
+  pub written_read : SavedAs c p l buffer (Ok n) left → reading (take n left) ≡ listed c p l
   written_read = saved_text (unwritable l || ltb (length buffer) (length (text c p l))) refl

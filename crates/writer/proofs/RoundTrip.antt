@@ -14,8 +14,7 @@ use Rattle.task.specs.Limits.{most_tasks}
 use Rattle.schedule.specs.declared.Policy.{Policy}
 use Rattle.schedule.specs.declared.Policy.TheVariants.{ListOrder, RateMonotonic, DeadlineMonotonic, Edf}
 use Rattle.decimal.specs.Bytes.{newline}
-use Rattle.line.specs.declared.Line.TheVariants.{Task as taskLine}
-use Rattle.line.specs.declared.First.TheVariants.{Policy as policyLine}
+use Rattle.std.specs.Prelude.{Some}
 use Rattle.line.specs.Lines.{parts}
 use Rattle.line.specs.Kinds.{policy_text, card_text, first_of, task_fields, line_of}
 use Rattle.text.specs.Reading.{most_bytes, with_task, with_policy, tasks_on, card_on, lines_of, reading, listed}
@@ -26,12 +25,12 @@ use Rattle.writer.proofs.Numbers.{number_decimal}
 use Rattle.writer.proofs.Lengths.{text_length}
 use Rattle.writer.proofs.TextLines.{Readable, small, line_text, task_lines, list_lines, some_line, line_fields, text_lines}
 
-pub line_text_lem : (τ : Task) → Readable τ → line_of (line_text τ) ≡ taskLine τ
+pub line_text_lem : (τ : Task) → Readable τ → line_of (line_text τ) ≡ Some τ
 line_text_lem τ s =
     ap task_fields (line_fields τ)
     ∙ rw (number_decimal _ s.offset_small, number_decimal _ s.run_small, number_decimal _ s.deadline_small, number_decimal _ s.period_small)
 
-pub first_text : (p : Policy) → first_of (policy_text p) ≡ policyLine p
+pub first_text : (p : Policy) → first_of (policy_text p) ≡ Some p
 first_text ListOrder = refl
 first_text RateMonotonic = refl
 first_text DeadlineMonotonic = refl

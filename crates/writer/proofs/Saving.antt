@@ -15,11 +15,11 @@ use Rattle.task.specs.Arrays.{Holds}
 use Rattle.schedule.specs.declared.Policy.{Policy}
 use Rattle.decimal.specs.Laying.{Laid}
 use Rattle.decimal.proofs.Laying.{laid_whole, is_short, is_room}
-use Rattle.writer.specs.declared.Saved.TheVariants.{Length, Refused}
+use Rattle.std.specs.Prelude.{Ok, Err}
 use Rattle.writer.specs.Writing.{text, any_large, SavedAs}
 
 module _ (c : Card) (p : Policy) (own : Tasks) (l : List Task) (holds : Holds own l) (buffer : List ℕ) where
-  pub saved_many : most_tasks < own.count → SavedAs c p l buffer Refused buffer
+  pub saved_many : most_tasks < own.count → SavedAs c p l buffer (Err (record {})) buffer
   saved_many h =
       let e : most_tasks < length l = omega (arith, holds.counted) in
       simp (lt-ltb most_tasks (length l) e) (record { is_refused = refl; kept = refl })
@@ -32,7 +32,7 @@ module _ (c : Card) (p : Policy) (own : Tasks) (l : List Task) (holds : Holds ow
     not_many : length l ≤ most_tasks
     not_many = omega (arith, holds.counted)
 
-    pub saved_large : any_large (take own.count own.items) ≡ true → SavedAs c p l buffer Refused buffer
+    pub saved_large : any_large (take own.count own.items) ≡ true → SavedAs c p l buffer (Err (record {})) buffer
     saved_large e =
         let f : any_large l ≡ true = rw is_list at e in
         simp (le-ltb most_tasks (length l) not_many, f) (record { is_refused = refl; kept = refl })
@@ -45,17 +45,17 @@ module _ (c : Card) (p : Policy) (own : Tasks) (l : List Task) (holds : Holds ow
       is_measured : Laid 0 (text c p l) [] n none
       is_measured = rw is_list at measured
 
-      pub saved_short : length buffer < n → SavedAs c p l buffer Refused buffer
+      pub saved_short : length buffer < n → SavedAs c p l buffer (Err (record {})) buffer
       saved_short h =
           simp
           (le-ltb most_tasks (length l) not_many, none_large, lt-ltb (length buffer) (length (text c p l)) (is_short buffer small is_measured h))
           (record { is_refused = refl; kept = refl })
 
       pub saved_whole : {m : ℕ} {left : List ℕ} → n ≤ length buffer → Laid 0 (text c p (take own.count own.items)) buffer m left
-          → SavedAs c p l buffer (Length m) left
+          → SavedAs c p l buffer (Ok m) left
       saved_whole h laid =
           let fits = is_room buffer small is_measured h in
           let w = laid_whole {text = text c p l} (omega arith) fits (rw is_list at laid) in
           simp
           (le-ltb most_tasks (length l) not_many, none_large, le-ltb (length buffer) (length (text c p l)) fits)
-          (record { is_length = ap Length w.0; later_kept = w.1 })
+          (record { is_length = ap Ok w.0; later_kept = w.1 })

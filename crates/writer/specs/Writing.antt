@@ -1,5 +1,5 @@
 -- The text of a policy, a card and a list. Requests #101 and #105.
-use Rattle.std.specs.Prelude.{◌≡◌, Bool, true, false, ◌||◌, List, [], ◌∷◌, ◌++◌, ℕ, ltb, length, drop}
+use Rattle.std.specs.Prelude.{◌≡◌, Bool, true, false, ◌||◌, List, [], ◌∷◌, ◌++◌, ℕ, ltb, length, drop, Result, Ok, Err}
 use Rattle.card.specs.declared.Card.{Card}
 use Rattle.card.specs.declared.Card.TheVariants.{Wide, Small}
 use Rattle.task.specs.declared.Task.{Task}
@@ -7,8 +7,7 @@ use Rattle.task.specs.Limits.{most_tasks}
 use Rattle.schedule.specs.declared.Policy.{Policy}
 use Rattle.decimal.specs.Bytes.{bytes, newline, space}
 use Rattle.decimal.specs.Decimal.{decimal}
-use Rattle.writer.specs.declared.Saved.{Saved}
-use Rattle.writer.specs.declared.Saved.TheVariants.{Length, Refused}
+use Rattle.writer.specs.declared.Unwritable.{Unwritable}
 use Rattle.line.specs.Lines.{largest_number}
 use Rattle.line.specs.Kinds.{policy_text, card_text}
 
@@ -42,18 +41,18 @@ abbrev pub unwritable : List Task → Bool
 unwritable l = ltb most_tasks (length l) || any_large l
 
 -- the writer's answer as the request writes it: the length, or 13
-abbrev pub saved_number : Saved → ℕ
-saved_number (Length n) = n
-saved_number Refused = 13
+abbrev pub saved_number : Result ℕ Unwritable → ℕ
+saved_number (Ok n) = n
+saved_number (Err e) = 13
 
 -- `buffer` is as it was lent, `left` as it is left
-module _ (card : Card) (p : Policy) (l : List Task) (buffer : List ℕ) (r : Saved) (left : List ℕ) where
+module _ (card : Card) (p : Policy) (l : List Task) (buffer : List ℕ) (r : Result ℕ Unwritable) (left : List ℕ) where
   pub record IsRefused : Type 0 where
-    pub is_refused : r ≡ Refused
+    pub is_refused : r ≡ Err (record {})
     pub kept : left ≡ buffer
 
   pub record IsWritten : Type 0 where
-    pub is_length : r ≡ Length (length (text card p l))
+    pub is_length : r ≡ Ok (length (text card p l))
     pub later_kept : left ≡ text card p l ++ drop (length (text card p l)) buffer
 
   abbrev pub either : Bool → Type 0

@@ -1,6 +1,5 @@
 // The text of a policy, a card and a list, laid into a buffer.
-ghost use Rattle.std.specs.Prelude.{◌≡◌, [], ◌∷◌, ◌++◌, ◌≤◌, take};
-ghost use Rattle.task.specs.Limits.{most_tasks};
+ghost use Rattle.std.specs.Prelude.{◌≡◌, [], ◌∷◌, ◌++◌};
 ghost use Rattle.decimal.specs.Bytes.{newline};
 ghost use Rattle.decimal.specs.Laying.{Laid};
 ghost use Rattle.line.specs.Kinds.{policy_text};
@@ -11,20 +10,13 @@ use line::LARGEST_NUMBER;
 use schedule::Policy;
 use task::Task;
 
-pub(crate) fn text(
-    items: [Task; Task::MOST],
-    count: usize,
-    card: Card,
-    policy: Policy,
-    out: &mut [u8],
-) -> usize
-    requires { count ≤ most_tasks }
-    ensures { Laid 0 (text card policy (take count items)) out.old result out.new }
+pub(crate) fn text(tasks: &[Task], card: Card, policy: Policy, out: &mut [u8]) -> usize
+    ensures { Laid 0 (text card policy tasks.now) out.old result out.new }
 {
     let second = first(policy, out);
     let mut at = card_line(card, out, second);
-    for i in 0..count {
-        at = task(items[i], out, at);
+    for task in tasks {
+        at = task_line(*task, out, at);
     }
     at
 }
@@ -50,7 +42,7 @@ fn card_line(card: Card, out: &mut [u8], at: usize) -> usize
     }
 }
 
-fn task(task: Task, out: &mut [u8], at: usize) -> usize
+fn task_line(task: Task, out: &mut [u8], at: usize) -> usize
     ensures { Laid at (task_text task) out.old result out.new }
 {
     let word = decimal::word(out, at, b"task");
@@ -69,29 +61,17 @@ fn field(n: usize, out: &mut [u8], at: usize) -> usize
 }
 
 // Whether a number of the list is above those that are read.
-pub(crate) fn any_large(items: [Task; Task::MOST], count: usize) -> bool
-    requires { count ≤ most_tasks }
-    ensures { result ≡ any_large (take count items) }
+pub(crate) fn any_large(tasks: &[Task]) -> bool
+    ensures { result ≡ any_large tasks.now }
 {
-    for i in 0..count {
-        if is_large(items[i]) {
-            return true;
-        }
-    }
-    false
+    tasks.iter().any(|task| is_large(*task))
 }
 
 fn is_large(task: Task) -> bool
     ensures { result ≡ is_large task }
 {
-    if LARGEST_NUMBER < task.offset {
-        return true;
-    }
-    if LARGEST_NUMBER < task.run {
-        return true;
-    }
-    if LARGEST_NUMBER < task.deadline {
-        return true;
-    }
-    LARGEST_NUMBER < task.period
+    LARGEST_NUMBER < task.offset
+        || LARGEST_NUMBER < task.run
+        || LARGEST_NUMBER < task.deadline
+        || LARGEST_NUMBER < task.period
 }

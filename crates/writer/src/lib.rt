@@ -13,41 +13,34 @@ use schedule::Policy;
 use task::Task;
 use task::list::Tasks;
 
-// The text's length, or a refusal: number 13.
-#[derive(Clone, Copy)]
-pub enum Saved {
-    Length(usize),
-    Refused,
-}
+// The list can't be written as text, or the text does not fit.
+#[derive(Clone, Copy, Debug, PartialEq, Eq)]
+pub struct Unwritable;
 
-impl Saved {
-    // The length, or the request's number.
+impl Unwritable {
+    // The request's number.
     pub fn number(self) -> usize
-        ensures { result ≡ saved_number self }
+        ensures { result ≡ saved_number (Err self) }
     {
-        match self {
-            Saved::Length(n) => n,
-            Saved::Refused => 13,
-        }
+        13
     }
 }
 
-// Writes the text of a policy, a card and a list, unless the list can't be written or the text does not fit.
-pub fn write(list: Tasks, card: Card, policy: Policy, out: &mut [u8]) -> Saved
+// Writes the text of a policy, a card and a list, and answers its length, unless the list can't be written or the text does not fit.
+pub fn write(list: Tasks, card: Card, policy: Policy, out: &mut [u8]) -> Result<usize, Unwritable>
     ensures { (l : List Task) → Holds list l → SavedAs card policy l out.old result out.new }
 {
-    let items = list.items;
-    let count = list.count;
-    if Task::MOST < count {
-        return Saved::Refused;
+    if Task::MOST < list.count {
+        return Err(Unwritable);
     }
-    if lay::any_large(items, count) {
-        return Saved::Refused;
+    let tasks = &list.items[..list.count];
+    if lay::any_large(tasks) {
+        return Err(Unwritable);
     }
     // Measured first, by laying it into no buffer.
-    let n = lay::text(items, count, card, policy, &mut [0u8; 0]);
+    let n = lay::text(tasks, card, policy, &mut []);
     if out.len() < n {
-        return Saved::Refused;
+        return Err(Unwritable);
     }
-    Saved::Length(lay::text(items, count, card, policy, out))
+    Ok(lay::text(tasks, card, policy, out))
 }

@@ -1,10 +1,10 @@
--- `task` meets its contract: the word, the four fields and the newline.
+-- `task_line` meets its contract: the word, the four fields and the newline.
 use Prim.Native.Nat.{◌≤◌}
 use native.Mathlib.Omega.{arith}
 use lib.ListN.{length}
 use Rattle.task.specs.Limits.{largest}
 use Rattle.decimal.proofs.Laying.{laid_both}
-use Rattle.writer.proofs.lay.task.Goals as goal
+use Rattle.writer.proofs.lay.task_line.Goals as goal
 
 pub returns : goal.returns
 returns c =
