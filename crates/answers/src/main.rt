@@ -5,37 +5,23 @@
 
 ghost use Rattle.std.specs.Prelude.{◌<◌};
 
-use decimal::Written;
 use std::io;
 use std::io::{ErrorKind, Read};
-use text::Found;
-use writer::Saved;
 
 // Inputs that are just too long are among those to compare.
 const ROOM: usize = text::MOST_BYTES + 2;
 
 const FRAME: usize = ROOM + 2;
 
-fn wide(b: u8) -> usize
-    ensures { result < 256 }
-{
-    b as usize
-}
-
-fn low(n: usize) -> u8 {
-    (n % 256) as u8
-}
-
 fn send(rt: &impl Print, bytes: &[u8]) -> io::Result<()> {
-    let n = bytes.len();
-    let head = [low(n), low(n / 256), low(n / 65536), 0];
-    rt.write_all(&head)?;
+    let [a, b, c, ..] = bytes.len().to_le_bytes();
+    rt.write_all(&[a, b, c, 0])?;
     rt.write_all(bytes)
 }
 
 fn say(rt: &impl Print, input: &[u8]) -> io::Result<bool> {
     let mut out = [0u8; output::LONGEST_OUTPUT];
-    let Written::Length(n) = output::answer(input, &mut out) else {
+    let Some(n) = output::answer(input, &mut out) else {
         return Ok(false);
     };
     send(rt, &out[..n])?;
@@ -44,15 +30,12 @@ fn say(rt: &impl Print, input: &[u8]) -> io::Result<bool> {
 
 // No text is longer than an input may be (`text_length`).
 fn write_again(rt: &impl Print, input: &[u8]) -> io::Result<bool> {
-    let read = text::read(input);
-    let tasks = read.tasks;
-    let found = read.found;
-    let Found::Listed(card, policy) = found else {
+    let Ok(list) = text::read(input) else {
         send(rt, b"")?;
         return Ok(true);
     };
     let mut out = [0u8; text::MOST_BYTES];
-    let Saved::Length(n) = writer::write(tasks, card, policy, &mut out) else {
+    let Ok(n) = writer::write(list.tasks, list.card, list.policy, &mut out) else {
         send(rt, b"")?;
         return Ok(true);
     };
@@ -67,13 +50,8 @@ fn write_again(rt: &impl Print, input: &[u8]) -> io::Result<bool> {
 fn next(stdin: &mut impl Read, frame: &mut [u8]) -> io::Result<bool> {
     match stdin.read_exact(frame) {
         Ok(()) => Ok(true),
-        Err(error) => {
-            if error.kind() == ErrorKind::UnexpectedEof {
-                Ok(false)
-            } else {
-                Err(error)
-            }
-        }
+        Err(error) if error.kind() == ErrorKind::UnexpectedEof => Ok(false),
+        Err(error) => Err(error),
     }
 }
 
@@ -83,7 +61,7 @@ fn one(rt: &impl Print, stdin: &mut impl Read) -> io::Result<bool> {
     if !next(stdin, &mut frame)? {
         return Ok(false);
     }
-    let end = wide(frame[0]) + 256 * wide(frame[1]) + 2;
+    let end = usize::from(u16::from_le_bytes([frame[0], frame[1]])) + 2;
     if FRAME < end {
         return Ok(false);
     }

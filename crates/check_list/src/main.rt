@@ -3,14 +3,14 @@
 
 ghost use Rattle.std.specs.Prelude.{◌≤◌, length, IfOk};
 
-use decimal::Written;
 use std::io;
 use std::io::{Error, Read};
 
 // One byte more than is read is enough to know that an input is too long.
 const ENOUGH: usize = text::MOST_BYTES + 1;
 
-// Reads until `input` is full or standard input ends, and answers how many bytes it has.
+// Reads until `input` is full or standard input ends, and answers how many bytes it has; `read_exact` would not say how many came before
+// the end.
 fn read_full(stdin: &mut impl Read, input: &mut [u8]) -> io::Result<usize>
     ensures { IfOk result (λ n. n ≤ length input.new) }
 {
@@ -34,7 +34,7 @@ fn at_end(stdin: &mut impl Read) -> io::Result<bool> {
 // The buffer has room for every output, so that none is short (`printed_whole`).
 fn say(rt: &impl Print, input: &[u8]) -> io::Result<()> {
     let mut out = [0u8; output::LONGEST_OUTPUT];
-    if let Written::Length(n) = output::answer(input, &mut out) {
+    if let Some(n) = output::answer(input, &mut out) {
         rt.write_all(&out[..n])?;
     }
     Ok(())

@@ -13,11 +13,9 @@ use Rattle.schedule.specs.declared.Policy.{Policy}
 use Rattle.answer.specs.Answers.{row, Row, refused, overloaded, missed, feasible}
 use Rattle.answer.specs.Promise.{Permitted}
 use Rattle.answer.proofs.Verdicts.{missed_by}
-use Rattle.decimal.specs.declared.Written.{Written}
-use Rattle.decimal.specs.declared.Written.TheVariants.{Length}
+use Rattle.std.specs.Prelude.{Option, Some}
 use Rattle.decimal.specs.Bytes.{bytes}
 use Rattle.decimal.proofs.Decimal.{decimal_length}
-use Rattle.decimal.proofs.Laying.{wrote_counts}
 use Rattle.text.specs.Reading.{Reading, unread, listed, reading}
 use Rattle.text.proofs.LineNumbers.{unread_most}
 use Rattle.report.specs.Report.{one, two, report}
@@ -64,12 +62,8 @@ output_fits input output = go (reading input) refl
     go (listed card p l) e x = reported_fits card p l output x
 
 -- a buffer of that length gets every output whole
-pub printed_whole : (input buffer : List ℕ) (r : Written) (left : List ℕ) → longest_output ≤ length buffer
-    → Printed (reading input) buffer r left → (n : ℕ) × (r ≡ Length n)
+pub printed_whole : (input buffer : List ℕ) (r : Option ℕ) (left : List ℕ) → longest_output ≤ length buffer
+    → Printed (reading input) buffer r left → (n : ℕ) × (r ≡ Some n)
 printed_whole input buffer r left h x =
     let fits : length x.output ≤ length buffer = le_trans (output_fits input x.output x.is_output) h in
     (length x.output, (simp (le-ltb (length buffer) (length x.output) fits) at x.wrote).is_length)
-
--- what is answered counts bytes of the buffer
-pub printed_counts : {reading : Reading} {buffer left : List ℕ} {r : Written} {n : ℕ} → Printed reading buffer r left → r ≡ Length n → n ≤ length left
-printed_counts {buffer} {left} {r} x e = wrote_counts x.output buffer r left x.wrote e

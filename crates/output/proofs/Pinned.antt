@@ -8,7 +8,7 @@ use Rattle.schedule.specs.declared.Policy.{Policy}
 use Rattle.answer.specs.declared.Answer.{Answer}
 use Rattle.answer.specs.Answers.{row}
 use Rattle.answer.proofs.Pinned.{answer_pinned}
-use Rattle.decimal.specs.declared.Written.{Written}
+use Rattle.std.specs.Prelude.{Option}
 use Rattle.decimal.proofs.Pinned.{wrote_pinned}
 use Rattle.text.specs.Reading.{Reading, unread, listed}
 use Rattle.report.specs.Report.{report}
@@ -27,7 +27,7 @@ pub output_pinned : (r : Reading) (a b : List ℕ) → Output r a → Output r b
 output_pinned (unread n) a b x y = x ∙ sym y
 output_pinned (listed card p l) a b x y = reported_pinned card p l a b x y
 
-pub printed_pinned : (reading : Reading) (buffer : List ℕ) (r r' : Written) (left left' : List ℕ) →
+pub printed_pinned : (reading : Reading) (buffer : List ℕ) (r r' : Option ℕ) (left left' : List ℕ) →
     Printed reading buffer r left → Printed reading buffer r' left' → (r ≡ r') × (left ≡ left')
 printed_pinned reading buffer r r' left left' x y =
     let e = output_pinned reading x.output y.output x.is_output y.is_output in

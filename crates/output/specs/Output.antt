@@ -1,5 +1,5 @@
 -- What is printed for an input. Requests #101 and #105.
-use Rattle.std.specs.Prelude.{◌≡◌, List, ℕ, ◌+◌, ◌-◌, ◌*◌, length, replicate}
+use Rattle.std.specs.Prelude.{◌≡◌, List, ℕ, ◌+◌, ◌-◌, ◌*◌, length, replicate, Option}
 use Rattle.card.specs.declared.Card.{Card}
 use Rattle.task.specs.declared.Task.{Task}
 use Rattle.task.specs.Limits.{most_tasks, latest_offset, longest_hyperperiod}
@@ -9,7 +9,6 @@ use Rattle.answer.specs.declared.Answer.{Answer}
 use Rattle.answer.specs.Answers.{row}
 use Rattle.answer.specs.Tables.{byte_of}
 use Rattle.answer.specs.Promise.{Promised}
-use Rattle.decimal.specs.declared.Written.{Written}
 use Rattle.decimal.specs.Bytes.{bytes}
 use Rattle.decimal.specs.Laying.{Wrote}
 use Rattle.text.specs.Reading.{Reading, unread, listed}
@@ -39,7 +38,7 @@ Output (unread n) output = output ≡ one (bytes "unread") n
 Output (listed card p l) output = Reported card p l output
 
 -- the output for a reading, into a lent buffer
-pub record Printed (reading : Reading) (buffer : List ℕ) (r : Written) (left : List ℕ) : Type 0 where
+pub record Printed (reading : Reading) (buffer : List ℕ) (r : Option ℕ) (left : List ℕ) : Type 0 where
   pub output : List ℕ
   pub is_output : Output reading output
   pub wrote : Wrote output buffer r left

@@ -14,6 +14,14 @@ one name a = name ++ space ∷ decimal a ++ newline ∷ []
 abbrev pub two : List ℕ → ℕ → ℕ → List ℕ
 two name a b = name ++ space ∷ decimal a ++ space ∷ decimal b ++ newline ∷ []
 
+-- a line of a name and any numbers, one space before each (`line_one`, `line_two`)
+abbrev pub numbers_text : List ℕ → List ℕ
+numbers_text [] = newline ∷ []
+numbers_text (a ∷ numbers) = space ∷ decimal a ++ numbers_text numbers
+
+abbrev pub line : List ℕ → List ℕ → List ℕ
+line name numbers = name ++ numbers_text numbers
+
 abbrev pub idle_or : Bool → ℕ → List ℕ
 idle_or true b = bytes "-"
 idle_or false b = decimal b

@@ -1,9 +1,8 @@
 // The lines of a report, laid into a buffer one after the other.
-ghost use Rattle.std.specs.Prelude.{◌≡◌, ◌+◌, min, take};
+ghost use Rattle.std.specs.Prelude.{◌≡◌, take};
 ghost use Rattle.answer.specs.Answers.{row, feasible};
-ghost use Rattle.task.specs.Limits.{largest};
 ghost use Rattle.decimal.specs.Laying.{Laid};
-ghost use Rattle.report.specs.Report.{one, two, spaced, table, report};
+ghost use Rattle.report.specs.Report.{line, spaced, table, report};
 
 use answer::{Answer, IDLE, Plan};
 use decimal::{byte, number, word};
@@ -13,9 +12,14 @@ pub(crate) fn report(said: Answer, startup: &[u8], cycle: &[u8], out: &mut [u8])
 {
     match said {
         Answer::Feasible(plan) => feasible(plan, startup, cycle, out),
-        Answer::Missed { task, at } => two(b"missed", task, at, out, 0),
-        Answer::Overloaded { load, hyperperiod } => two(b"overloaded", load, hyperperiod, out, 0),
-        Answer::Refused(why, task) => two(b"refused", why.number(), task, out, 0),
+        Answer::Missed { task, at } => line(b"missed", &[task, at], out, 0),
+        Answer::Overloaded { load, hyperperiod } => line(
+            b"overloaded",
+            &[load, hyperperiod],
+            out,
+            0,
+        ),
+        Answer::Refused(why, task) => line(b"refused", &[why.number(), task], out, 0),
     }
 }
 
@@ -23,48 +27,40 @@ fn feasible(plan: Plan, startup: &[u8], cycle: &[u8], out: &mut [u8]) -> usize
     ensures { Laid 0 (report (feasible plan) startup.now cycle.now) out.old result out.new }
 {
     let head = word(out, 0, b"feasible\n");
-    let hyperperiod = one(b"hyperperiod", plan.hyperperiod, out, head);
-    let load = one(b"load", plan.load, out, hyperperiod);
-    let idle = two(b"idle", plan.startup_idle, plan.cycle_idle, out, load);
-    let preemptions = two(
+    let hyperperiod = line(b"hyperperiod", &[plan.hyperperiod], out, head);
+    let load = line(b"load", &[plan.load], out, hyperperiod);
+    let idle = line(b"idle", &[plan.startup_idle, plan.cycle_idle], out, load);
+    let preemptions = line(
         b"preemptions",
-        plan.startup_preemptions,
-        plan.cycle_preemptions,
+        &[plan.startup_preemptions, plan.cycle_preemptions],
         out,
         idle,
     );
-    let lead = sum(plan.latest, plan.hyperperiod);
+    // No table is as long as the largest number.
+    let lead = plan.latest.saturating_add(plan.hyperperiod);
     let first = table(b"first", beginning(startup, lead), out, preemptions);
     let again = beginning(cycle, plan.hyperperiod);
     table(b"again", again, out, first)
 }
 
-pub fn one(name: &[u8], a: usize, out: &mut [u8], at: usize) -> usize
-    ensures { Laid at (one name.now a) out.old result out.new }
+// A name and numbers.
+pub fn line(name: &[u8], numbers: &[usize], out: &mut [u8], at: usize) -> usize
+    ensures { Laid at (line name.now numbers.now) out.old result out.new }
 {
-    let named = word(out, at, name);
-    let spaced = byte(out, named, b' ');
-    let counted = number(out, spaced, a);
-    byte(out, counted, b'\n')
-}
-
-fn two(name: &[u8], a: usize, b: usize, out: &mut [u8], at: usize) -> usize
-    ensures { Laid at (two name.now a b) out.old result out.new }
-{
-    let named = word(out, at, name);
-    let spaced = byte(out, named, b' ');
-    let counted = number(out, spaced, a);
-    let again = byte(out, counted, b' ');
-    let both = number(out, again, b);
-    byte(out, both, b'\n')
+    let mut next = word(out, at, name);
+    for n in numbers {
+        let spaced = byte(out, next, b' ');
+        next = number(out, spaced, *n);
+    }
+    byte(out, next, b'\n')
 }
 
 fn table(name: &[u8], slots: &[u8], out: &mut [u8], at: usize) -> usize
     ensures { Laid at (table name.now slots.now) out.old result out.new }
 {
     let mut next = word(out, at, name);
-    for i in 0..slots.len() {
-        next = slot(slots[i], out, next);
+    for b in slots {
+        next = slot(*b, out, next);
     }
     byte(out, next, b'\n')
 }
@@ -83,16 +79,5 @@ fn slot(b: u8, out: &mut [u8], at: usize) -> usize
 fn beginning(s: &[u8], n: usize) -> &[u8]
     ensures { result.now ≡ take n s.now }
 {
-    if n < s.len() { &s[..n] } else { s }
-}
-
-// No table is as long as the largest number.
-fn sum(a: usize, b: usize) -> usize
-    ensures { result ≡ min (a + b) largest }
-{
-    if a <= usize::MAX - b {
-        a + b
-    } else {
-        usize::MAX
-    }
+    s.get(..n).unwrap_or(s)
 }

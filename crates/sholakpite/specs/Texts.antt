@@ -1,21 +1,19 @@
 -- Texts for callers in C and Rust: an input's output, and the text of a list of words.
-use Rattle.std.specs.Prelude.{◌≡◌, Bool, true, false, ◌||◌, List, ℕ}
-use Rattle.decimal.specs.declared.Written.{Written}
-use Rattle.decimal.specs.declared.Written.TheVariants.{Length, Short}
+use Rattle.std.specs.Prelude.{◌≡◌, Bool, true, false, ◌||◌, List, ℕ, Option, Some, None, Result}
 use Rattle.text.specs.Reading.{reading}
-use Rattle.writer.specs.declared.Saved.{Saved}
+use Rattle.writer.specs.declared.Unwritable.{Unwritable}
 use Rattle.writer.specs.Writing.{SavedAs, saved_number}
 use Rattle.output.specs.Output.{Printed}
 use Rattle.words.specs.Words.{card_of, policy_of, tasks_of, unnamed, ragged, not_understood}
 
 -- the output's length, or 0 for a buffer that is shorter: no output is empty (`output_full`)
-abbrev pub length_of : Written → ℕ
-length_of (Length n) = n
-length_of Short = 0
+abbrev pub length_of : Option ℕ → ℕ
+length_of (Some n) = n
+length_of None = 0
 
 -- `buffer` is as it was lent, `left` as it is left, n what is answered
 pub record AnsweredText (input buffer : List ℕ) (n : ℕ) (left : List ℕ) : Type 0 where
-  pub written : Written
+  pub written : Option ℕ
   pub printed : Printed (reading input) buffer written left
   pub is_length : n ≡ length_of written
 
@@ -29,7 +27,7 @@ module _ (card policy : ℕ) (list buffer : List ℕ) where
     pub kept : left ≡ buffer
 
   pub record Understood (n : ℕ) (left : List ℕ) : Type 0 where
-    pub saved : Saved
+    pub saved : Result ℕ Unwritable
     pub saved_as : SavedAs (card_of card) (policy_of policy) (tasks_of list) buffer saved left
     pub is_number : n ≡ saved_number saved
 

@@ -2,7 +2,6 @@
 ghost use Rattle.words.specs.Words.{wide_card};
 ghost use Rattle.sholakpite.specs.Texts.{AnsweredText, WrittenText};
 
-use decimal::Written;
 use words::list::{tasks_of, understood};
 use words::{NOT_UNDERSTOOD, list};
 
@@ -11,10 +10,7 @@ use words::{NOT_UNDERSTOOD, list};
 pub extern "C" fn sholakpite_answer(input: &[u8], out: &mut [u8]) -> u64
     ensures { AnsweredText input.now out.old result out.new }
 {
-    match output::answer(input, out) {
-        Written::Length(n) => n as u64,
-        Written::Short => 0,
-    }
+    output::answer(input, out).unwrap_or(0) as u64
 }
 
 // The text of a list of words, O C D T for each task, for a card and a policy, both by number, and its length; or 13, with nothing written.
@@ -28,8 +24,10 @@ pub extern "C" fn sholakpite_write_card(card: u64, policy: u64, list: &[u64], ou
     let Some((card, policy)) = understood(card, policy) else {
         return NOT_UNDERSTOOD;
     };
-    let saved = writer::write(tasks_of(list), card, policy, out);
-    saved.number() as u64
+    match writer::write(tasks_of(list), card, policy, out) {
+        Ok(length) => length as u64,
+        Err(unwritable) => unwritable.number() as u64,
+    }
 }
 
 // The same, for a wide card.

@@ -6,23 +6,22 @@ use lib.ListN.{length, take}
 use lib.Seq.{take_all}
 use borrow.Author.Rules.{rules}
 use Rattle.task.specs.Limits.{largest}
-use Rattle.decimal.proofs.Laying.{laid_none, laid_both, laid_length}
-use Rattle.report.proofs.Slots.{entries_next, entries_end}
+use Rattle.decimal.proofs.Laying.{laid_both, laid_length}
+use Rattle.report.specs.Report.{spaced}
+use Rattle.report.proofs.Lines.{entries_next}
+use Rattle.report.proofs.Slots.{slots_end}
 use Rattle.report.proofs.lay.table.Goals as goal
 
-pub loop-i-init : goal.loop-i-init
-loop-i-init c = (omega arith, laid_none c.word-next.result c.word-next.new.out (search rules))
-
-pub loop-i-preserved : goal.loop-i-preserved
-loop-i-preserved c =
-    let l = c.loop-i in
-    let e = entries_next c.args.slots.now l.i (search rules) in
-    (omega arith, rw e (laid_both (omega (arith, laid_length c.word-next.ensures, c.well_formed)) l.invariant.1 c.slot-next.ensures))
+pub loop-b-preserved : goal.loop-b-preserved
+loop-b-preserved c =
+    let l = c.loop-b in
+    let e = entries_next spaced c.args.slots.now l.b-index (search rules) in
+    rw e (laid_both (omega (arith, laid_length c.word-next.ensures, c.well_formed)) l.invariant c.slot-next.ensures)
 
 pub returns : goal.returns
 returns c =
-    let l = c.loop-i in
+    let l = c.loop-b in
     let small : length c.args.out.now ≤ largest = omega (arith, c.well_formed) in
     let small-too : length c.word-next.new.out ≤ largest = omega (arith, laid_length c.word-next.ensures) in
-    let e : take l.i c.args.slots.now ≡ c.args.slots.now = take_all l.i c.args.slots.now (omega arith) in
-    laid_both small c.word-next.ensures (rw (e, entries_end) at (laid_both small-too l.invariant.1 c.byte.ensures))
+    let e : take l.b-index c.args.slots.now ≡ c.args.slots.now = take_all l.b-index c.args.slots.now (omega arith) in
+    laid_both small c.word-next.ensures (rw (e, slots_end) at (laid_both small-too l.invariant c.byte.ensures))

@@ -1,9 +1,9 @@
 -- `table` meets its contract: the name, entry after entry, and a newline.
-use Prim.Native.Nat.{◌≤◌}
-use lib.ListN.{length, take}
+use lib.ListN.{take}
 use Rattle.decimal.specs.Laying.{Laid}
-use Rattle.report.proofs.Slots.{entries}
+use Rattle.report.specs.Report.{spaced}
+use Rattle.report.proofs.Lines.{entries}
 use Rattle.report.proofs.lay.table.Given as goal
 
-abbrev pub invariant-loop-i : goal.invariant-loop-i
-invariant-loop-i l = (l.i ≤ length l.slots) × Laid l.initial.next (entries (take l.i l.slots)) l.initial.out l.next l.out
+abbrev pub invariant-loop-b : goal.invariant-loop-b
+invariant-loop-b l = Laid l.initial.next (entries spaced (take l.b-index l.slots)) l.initial.out l.next l.out

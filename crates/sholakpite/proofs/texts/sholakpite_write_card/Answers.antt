@@ -5,8 +5,14 @@ use Rattle.task.proofs.Copied.{held_array}
 use Rattle.words.specs.Words.{tasks_of}
 use Rattle.sholakpite.proofs.texts.sholakpite_write_card.Goals as goal
 
-pub returns : goal.returns
-returns c =
+pub returns-in-Ok : goal.returns-in-Ok
+returns-in-Ok c =
     let l = tasks_of c.args.list.now in
-    let w = c.write-saved.ensures l (rw c.tasks_of.ensures (held_array l)) in
+    let w = c.in-Ok.ensures l (rw c.tasks_of.ensures (held_array l)) in
+    grind (arith, common_steps)
+
+pub returns-in-Err : goal.returns-in-Err
+returns-in-Err c =
+    let l = tasks_of c.args.list.now in
+    let w = c.in-Err.ensures l (rw c.tasks_of.ensures (held_array l)) in
     grind (arith, common_steps)
