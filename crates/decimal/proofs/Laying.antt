@@ -1,18 +1,17 @@
 -- What is laid after what was laid, and when it all fits.
 use mathlib.Core.Path.{◌≡◌, refl, sym, ◌∙◌, ap}
-use mathlib.Core.Bool.{Bool, true, false}
 use mathlib.Core.List.{List, [], ◌∷◌, ◌++◌}
 use Prim.Native.Nat.{ℕ, suc, ◌+◌, ◌≤◌, ◌<◌, min}
 use native.Mathlib.Omega.{arith}
 use native.Mathlib.Decide.{dec_le}
 use native.Mathlib.Nat.{add-zero, zero-add, add-suc, suc-add}
-use lib.Dec.{ltb}
 use lib.ListN.{length, set, drop, length-append}
 use lib.Seq.{sets, sets-eq, set_out, length-sets}
 use borrow.Author.Tests.{lt-ltb, le-ltb}
-use Rattle.std.specs.Prelude.{Option, Some, None}
+use Rattle.std.specs.Prelude.{Some, None}
 use Rattle.task.specs.Limits.{largest}
-use Rattle.decimal.specs.Laying.{Laid, Wrote, either_way}
+use Rattle.decimal.specs.declared.Page.{Page}
+use Rattle.decimal.specs.Laying.{Laid, OnPage, Wrote}
 
 sets_out : (vs l : List ℕ) (i : ℕ) → length l ≤ i → sets l i vs ≡ l
 sets_out [] l i h = refl
@@ -45,16 +44,24 @@ laid_both {at} {n} {xs} {ys} {buffer} small a b = record {
       ∙ sym (sets_append xs ys buffer at);
 }
 
--- the same text, written otherwise
-pub laid_as : {at next : ℕ} {text other buffer left : List ℕ} → text ≡ other → Laid at text buffer next left → Laid at other buffer next left
-laid_as e h = rw e at h
-
 pub laid_length : {at next : ℕ} {text buffer left : List ℕ} → Laid at text buffer next left → length left ≡ length buffer
 laid_length {at} {text} {buffer} h = ap length h.filled ∙ length-sets buffer at text
 
--- nothing is laid
-pub laid_none : (at : ℕ) (buffer : List ℕ) → at ≤ largest → Laid at [] buffer at buffer
-laid_none at buffer h = record { place = omega arith; filled = refl }
+-- the same of pages
+pub page_both : {a b c : Page} {xs ys : List ℕ} → length a.out.now ≤ largest → OnPage a xs b → OnPage b ys c → OnPage a (xs ++ ys) c
+page_both small x y = record { same_buffer = y.same_buffer ∙ x.same_buffer; laid = laid_both small x.laid y.laid }
+
+-- the same text, written otherwise
+pub page_as : {a b : Page} {text other : List ℕ} → text ≡ other → OnPage a text b → OnPage a other b
+page_as e h = rw e at h
+
+pub page_length : {a b : Page} {text : List ℕ} → OnPage a text b → length b.out.now ≡ length a.out.now
+page_length h = laid_length h.laid
+
+-- what was laid on a page that was made of a buffer
+pub page_buffer : {a b : Page} {text buffer left : List ℕ} → (a.out.now ≡ buffer) × (a.at ≡ 0) → left ≡ b.out.now → OnPage a text b → Laid 0 text buffer b.at left
+page_buffer {b} {text} begun is_left x =
+    rw is_left (rw begun.1 at (rw begun.0 at x.laid))
 
 -- a text that fits, laid from the start
 pub laid_whole : {m : ℕ} {text buffer left : List ℕ} → length buffer ≤ largest → length text ≤ length buffer → Laid 0 text buffer m left
@@ -77,13 +84,3 @@ module _ {n : ℕ} {text none : List ℕ} (buffer : List ℕ) (small : length bu
   wrote_whole h laid =
       let w = laid_whole (omega arith) (is_room h) laid in
       simp (le-ltb (length buffer) (length text) (is_room h)) (record { is_length = ap Some w.0; later_kept = w.1 })
-
--- the length that is answered counts bytes of the buffer
-pub wrote_counts : {n : ℕ} (text buffer : List ℕ) (r : Option ℕ) (left : List ℕ) → Wrote text buffer r left → r ≡ Some n → n ≤ length left
-wrote_counts {n} text buffer r left w e = go (ltb (length buffer) (length text)) w
-  where
-    go : (short : Bool) → either_way short text buffer r left → n ≤ length left
-    go true w = let z : ◌≡◌ {A = ℕ} 0 1 = cc w.is_short in absurd (omega arith)
-    go false w =
-        let f : length text ≡ n = cc w.is_length in
-        omega (arith, ap length w.later_kept, length-append text (drop (length text) buffer))

@@ -2,11 +2,17 @@
 use Rattle.std.specs.Prelude.{◌≡◌, Bool, true, false, List, ◌++◌, ℕ, ◌+◌, min, ltb, length, drop, Option, Some, None}
 use Rattle.std.proofs.lemmas.List.Edits.{sets}
 use Rattle.task.specs.Limits.{largest}
+use Rattle.decimal.specs.declared.Page.{Page}
 
 -- a text from place `at` on, as far as the buffer goes, and the place after it, which no buffer has where it is `largest`
 pub record Laid (at : ℕ) (text buffer : List ℕ) (next : ℕ) (left : List ℕ) : Type 0 where
   pub place : next ≡ min (at + length text) largest
   pub filled : left ≡ sets buffer at text
+
+-- a text laid on a page from its place on, and the page after it, which still has the same buffer
+pub record OnPage (before : Page) (text : List ℕ) (after : Page) : Type 0 where
+  pub same_buffer : after.out.ghost_name ≡ before.out.ghost_name
+  pub laid : Laid before.at text before.out.now after.at after.out.now
 
 -- written: its length is answered, and later bytes stay
 pub record IsWhole (text buffer : List ℕ) (r : Option ℕ) (left : List ℕ) : Type 0 where

@@ -1,43 +1,57 @@
 // Bytes and numbers in decimal, laid into a lent buffer one after the other.
 #![tactic(auto)]
 
-ghost use Rattle.std.specs.Prelude.{◌≡◌, [], ◌∷◌, suc, min, ◌<◌};
+ghost use Rattle.std.specs.Prelude.{◌≡◌, [], ◌∷◌, ◌<◌};
 ghost use Rattle.decimal.specs.Decimal.{decimal, digit};
-ghost use Rattle.task.specs.Limits.{largest};
-ghost use Rattle.decimal.specs.Laying.{Laid};
+ghost use Rattle.decimal.specs.Laying.{OnPage};
 
 const BASE: usize = 10;
 
-// A byte at its place, if the buffer has one. Each answers the place after what it lays; after one that no buffer has
-// it may be any, and does not wrap.
-pub fn byte(out: &mut [u8], at: usize, b: u8) -> usize
-    ensures { Laid at (b ∷ []) out.old result out.new }
-{
-    if at < out.len() {
-        out[at] = b;
-    }
-    at.saturating_add(1)
+// A lent buffer, and the place in it where the next byte goes.
+#[derive(Drop)]
+pub struct Page<'a> {
+    pub out: &'a mut [u8],
+    pub at: usize,
 }
 
-pub fn word(out: &mut [u8], at: usize, text: &[u8]) -> usize
-    ensures { Laid at text.now out.old result out.new }
-{
-    let mut next = at;
-    for b in text {
-        next = byte(out, next, *b);
+impl<'a> Page<'a> {
+    // The buffer from its first place on.
+    pub fn new(out: &'a mut [u8]) -> Page<'a>
+        ensures same_buffer { result.out.ghost_name ≡ out.entry.ghost_name }
+        ensures begun { (result.out.now ≡ out.old) × (result.at ≡ 0) }
+    {
+        Page { out, at: 0 }
     }
-    next
-}
 
-// A number without leading zeros.
-pub fn number(out: &mut [u8], at: usize, n: usize) -> usize
-    ensures { Laid at (decimal n) out.old result out.new }
-{
-    if n < BASE {
-        return byte(out, at, digit(n));
+    // A byte at its place, if the buffer has one. The place after one that no buffer has may be any, and does not wrap.
+    pub fn byte(&mut self, b: u8)
+        ensures { OnPage self.old (b ∷ []) self.new }
+    {
+        if self.at < self.out.len() {
+            self.out[self.at] = b;
+        }
+        self.at = self.at.saturating_add(1);
     }
-    let next = number(out, at, n / BASE);
-    byte(out, next, digit(n % BASE))
+
+    pub fn word(&mut self, text: &[u8])
+        ensures { OnPage self.old text.now self.new }
+    {
+        for b in text {
+            self.byte(*b);
+        }
+    }
+
+    // A number without leading zeros.
+    pub fn number(&mut self, n: usize)
+        ensures { OnPage self.old (decimal n) self.new }
+    {
+        if n < BASE {
+            self.byte(digit(n));
+        } else {
+            self.number(n / BASE);
+            self.byte(digit(n % BASE));
+        }
+    }
 }
 
 fn digit(d: usize) -> u8

@@ -53,11 +53,6 @@ until_inside mark n s i h e =
     let f : n ≡ until mark (drop i s) = rw rest_is at e in
     omega (arith, f, until_le mark (drop i s), length-drop i s)
 
-pub behind_inside : (s : List ℕ) (i n : ℕ) → n < length (take (length s - i) (drop i s)) → i + n < length s
-behind_inside s i n h =
-    let k : n < length (drop i s) = rw rest_is at h in
-    omega (arith, k, length-drop i s)
-
 -- the parts behind a mark, if there is one
 abbrev pub behind : ℕ → List ℕ → List (List ℕ)
 behind mark [] = []

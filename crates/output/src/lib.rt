@@ -4,10 +4,14 @@
 ghost use Rattle.std.specs.Prelude.{◌≡◌, List};
 ghost use Rattle.task.specs.declared.Task.{Task};
 ghost use Rattle.task.specs.Arrays.{Holds};
+ghost use Rattle.decimal.specs.Bytes.{bytes};
+ghost use Rattle.decimal.specs.Laying.{Laid};
+ghost use Rattle.report.specs.Report.{one};
 ghost use Rattle.text.specs.Reading.{reading, unread, listed};
 ghost use Rattle.output.specs.Output.{Printed, longest_startup, longest_cycle, longest_output};
 
 use answer::IDLE;
+use decimal::Page;
 use report::lay;
 use task::Task;
 use text::Listed;
@@ -42,11 +46,19 @@ fn checked(list: Listed, out: &mut [u8]) -> Option<usize>
 fn unread(line: usize, out: &mut [u8]) -> Option<usize>
     ensures { Printed (unread line) out.old result out.new }
 {
-    let n = lay::line(b"unread", &[line], &mut [], 0);
+    let n = laid(line, &mut []);
     if out.len() < n {
         return None;
     }
-    Some(lay::line(b"unread", &[line], out, 0))
+    Some(laid(line, out))
+}
+
+fn laid(line: usize, out: &mut [u8]) -> usize
+    ensures { Laid 0 (one (bytes "unread") line) out.old result out.new }
+{
+    let mut page = Page::new(out);
+    lay::line(&mut page, b"unread", &[line]);
+    page.at
 }
 
 // Ties the lengths to the numbers of specs/.

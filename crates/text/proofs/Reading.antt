@@ -7,7 +7,6 @@ use native.Mathlib.Omega.{arith}
 use native.Mathlib.Numerals.{add-one}
 use lib.ListN.{length, take, drop, length-append, length-drop}
 use lib.Seq.{take_all}
-use borrow.Author.Tests.{lt-ltb, le-ltb}
 use Rattle.card.specs.declared.Card.{Card}
 use Rattle.card.specs.declared.Card.TheVariants.{Wide, Small}
 use Rattle.task.specs.declared.Task.{Task}
@@ -21,7 +20,7 @@ use Rattle.std.specs.Prelude.{Some, None}
 use Rattle.line.specs.Lines.{parts}
 use Rattle.line.specs.Places.{until}
 use Rattle.line.specs.Kinds.{line_of, is_card, first_of}
-use Rattle.text.specs.Reading.{most_bytes, reading, unread, with_task, at_end, tasks_on, card_on, with_policy, lines_of}
+use Rattle.text.specs.Reading.{unread, with_task, at_end, tasks_on, card_on, with_policy, lines_of}
 use Rattle.line.proofs.Parts.{never}
 use Rattle.line.proofs.Places.{rest_is, behind, parts_until, behind_none, behind_mark}
 
@@ -122,9 +121,3 @@ module _ (s : List ℕ) (end : ℕ) (is_end : end ≡ until newline s) where
 
     pub lines_next : (p : Policy) → Some p ≡ first_of (take end s) → lines_of (parts newline s) ≡ card_on p (parts newline (drop (end + 1) s))
     lines_next p e = rw (lines_first, ← e)
-
-pub too_long : (s : List ℕ) → most_bytes < length s → reading s ≡ unread 0
-too_long s h = rw (lt-ltb most_bytes (length s) h)
-
-pub not_long : (s : List ℕ) → length s ≤ most_bytes → reading s ≡ lines_of (parts newline s)
-not_long s h = rw (le-ltb most_bytes (length s) h)

@@ -19,11 +19,6 @@ use Rattle.std.specs.Prelude.{Ok, Err}
 use Rattle.writer.specs.Writing.{text, any_large, SavedAs}
 
 module _ (c : Card) (p : Policy) (own : Tasks) (l : List Task) (holds : Holds own l) (buffer : List ℕ) where
-  pub saved_many : most_tasks < own.count → SavedAs c p l buffer (Err (record {})) buffer
-  saved_many h =
-      let e : most_tasks < length l = omega (arith, holds.counted) in
-      simp (lt-ltb most_tasks (length l) e) (record { is_refused = refl; kept = refl })
-
   module _ (few : own.count ≤ most_tasks) where
     -- the array has the whole list
     is_list : take own.count own.items ≡ l

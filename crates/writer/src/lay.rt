@@ -1,11 +1,12 @@
 // The text of a policy, a card and a list, laid into a buffer.
 ghost use Rattle.std.specs.Prelude.{◌≡◌, [], ◌∷◌, ◌++◌};
 ghost use Rattle.decimal.specs.Bytes.{newline};
-ghost use Rattle.decimal.specs.Laying.{Laid};
+ghost use Rattle.decimal.specs.Laying.{Laid, OnPage};
 ghost use Rattle.line.specs.Kinds.{policy_text};
 ghost use Rattle.writer.specs.Writing.{text, card_line, task_text, field_text, is_large, any_large};
 
 use card::Card;
+use decimal::Page;
 use line::LARGEST_NUMBER;
 use schedule::Policy;
 use task::Task;
@@ -13,51 +14,52 @@ use task::Task;
 pub(crate) fn text(tasks: &[Task], card: Card, policy: Policy, out: &mut [u8]) -> usize
     ensures { Laid 0 (text card policy tasks.now) out.old result out.new }
 {
-    let second = first(policy, out);
-    let mut at = card_line(card, out, second);
+    let mut page = Page::new(out);
+    first(&mut page, policy);
+    card_line(&mut page, card);
     for task in tasks {
-        at = task_line(*task, out, at);
+        task_line(&mut page, *task);
     }
-    at
+    page.at
 }
 
-fn first(policy: Policy, out: &mut [u8]) -> usize
-    ensures { Laid 0 (policy_text policy ++ newline ∷ []) out.old result out.new }
+fn first(page: &mut Page, policy: Policy)
+    ensures { OnPage page.old (policy_text policy ++ newline ∷ []) page.new }
 {
     match policy {
-        Policy::ListOrder => decimal::word(out, 0, b"policy list\n"),
-        Policy::RateMonotonic => decimal::word(out, 0, b"policy rm\n"),
-        Policy::DeadlineMonotonic => decimal::word(out, 0, b"policy dm\n"),
-        Policy::Edf => decimal::word(out, 0, b"policy edf\n"),
+        Policy::ListOrder => page.word(b"policy list\n"),
+        Policy::RateMonotonic => page.word(b"policy rm\n"),
+        Policy::DeadlineMonotonic => page.word(b"policy dm\n"),
+        Policy::Edf => page.word(b"policy edf\n"),
     }
 }
 
 // The small card's line. A wide card has none.
-fn card_line(card: Card, out: &mut [u8], at: usize) -> usize
-    ensures { Laid at (card_line card) out.old result out.new }
+fn card_line(page: &mut Page, card: Card)
+    ensures { OnPage page.old (card_line card) page.new }
 {
     match card {
-        Card::Wide => at,
-        Card::Small => decimal::word(out, at, b"card small\n"),
+        Card::Wide => page.word(b""),
+        Card::Small => page.word(b"card small\n"),
     }
 }
 
-fn task_line(task: Task, out: &mut [u8], at: usize) -> usize
-    ensures { Laid at (task_text task) out.old result out.new }
+fn task_line(page: &mut Page, task: Task)
+    ensures { OnPage page.old (task_text task) page.new }
 {
-    let word = decimal::word(out, at, b"task");
-    let offset = field(task.offset, out, word);
-    let run = field(task.run, out, offset);
-    let deadline = field(task.deadline, out, run);
-    let period = field(task.period, out, deadline);
-    decimal::byte(out, period, b'\n')
+    page.word(b"task");
+    field(page, task.offset);
+    field(page, task.run);
+    field(page, task.deadline);
+    field(page, task.period);
+    page.byte(b'\n');
 }
 
-fn field(n: usize, out: &mut [u8], at: usize) -> usize
-    ensures { Laid at (field_text n) out.old result out.new }
+fn field(page: &mut Page, n: usize)
+    ensures { OnPage page.old (field_text n) page.new }
 {
-    let next = decimal::byte(out, at, b' ');
-    decimal::number(out, next, n)
+    page.byte(b' ');
+    page.number(n);
 }
 
 // Whether a number of the list is above those that are read.

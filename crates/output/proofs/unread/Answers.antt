@@ -2,9 +2,8 @@
 use mathlib.Core.Path.{refl}
 use native.Mathlib.Omega.{arith}
 use Rattle.decimal.specs.Bytes.{bytes}
-use Rattle.decimal.proofs.Laying.{laid_as, wrote_short, wrote_whole}
+use Rattle.decimal.proofs.Laying.{wrote_short, wrote_whole}
 use Rattle.report.specs.Report.{one}
-use Rattle.report.proofs.Lines.{line_one}
 use Rattle.output.proofs.unread.Goals as goal
 
 pub returns-then-out-n : goal.returns-then-out-n
@@ -12,14 +11,13 @@ returns-then-out-n c =
     record {
       output = one (bytes "unread") c.args.line;
       is_output = refl;
-      wrote = wrote_short c.args.out.now (omega (arith, c.well_formed)) (laid_as (line_one (bytes "unread") c.args.line) c.line-n.ensures) c.if-out-n.true;
+      wrote = wrote_short c.args.out.now (omega (arith, c.well_formed)) c.laid-n.ensures c.if-out-n.true;
     }
 
 pub returns : goal.returns
 returns c =
-    let text = line_one (bytes "unread") c.args.line in
     record {
       output = one (bytes "unread") c.args.line;
       is_output = refl;
-      wrote = wrote_whole c.args.out.now (omega (arith, c.well_formed)) (laid_as text c.line-n.ensures) c.if-out-n.false (laid_as text c.line.ensures);
+      wrote = wrote_whole c.args.out.now (omega (arith, c.well_formed)) c.laid-n.ensures c.if-out-n.false c.laid.ensures;
     }

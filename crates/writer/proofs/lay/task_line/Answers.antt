@@ -3,11 +3,11 @@ use Prim.Native.Nat.{◌≤◌}
 use native.Mathlib.Omega.{arith}
 use lib.ListN.{length}
 use Rattle.task.specs.Limits.{largest}
-use Rattle.decimal.proofs.Laying.{laid_both}
+use Rattle.decimal.proofs.Laying.{page_both}
 use Rattle.writer.proofs.lay.task_line.Goals as goal
 
 pub returns : goal.returns
 returns c =
-    let small : length c.args.out.now ≤ largest = omega (arith, c.well_formed) in
-    laid_both small (laid_both small (laid_both small (laid_both small (laid_both small
-    c.word-word.ensures c.field-offset.ensures) c.field-run.ensures) c.field-deadline.ensures) c.field-period.ensures) c.byte.ensures
+    let small : length c.args.page.now.out.now ≤ largest = omega arith in
+    page_both small (page_both small (page_both small (page_both small (page_both small
+    c.word.ensures c.field.ensures) c.field-2.ensures) c.field-3.ensures) c.field-4.ensures) c.byte.ensures

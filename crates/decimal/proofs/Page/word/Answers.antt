@@ -3,11 +3,12 @@ use mathlib.Core.Path.{◌≡◌}
 use mathlib.Core.List.{[], ◌∷◌, ◌++◌}
 use Prim.Native.Nat.{◌+◌}
 use native.Mathlib.Numerals.{add-one}
+use native.Mathlib.Omega.{arith}
 use lib.ListN.{take, get_or}
 use lib.Seq.{take-suc}
 use borrow.Author.Rules.{rules}
-use Rattle.decimal.proofs.Laying.{laid_both}
-use Rattle.decimal.proofs.word.Goals as goal
+use Rattle.decimal.proofs.Laying.{page_both}
+use Rattle.decimal.proofs.Page.word.Goals as goal
 
 pub loop-b-preserved : goal.loop-b-preserved
 loop-b-preserved c =
@@ -15,4 +16,4 @@ loop-b-preserved c =
     let x = c.args in
     let e : take (l.b-index + 1) x.text.now ≡ take l.b-index x.text.now ++ (get_or x.text.now l.b-index 0 ∷ []) =
     rw add-one (take-suc x.text.now l.b-index 0 (search rules)) in
-    rw e (laid_both (search rules) l.invariant c.byte-next.ensures)
+    rw e (page_both (omega arith) l.invariant c.byte.ensures)
