@@ -11,7 +11,7 @@ use lib.Dec.{eqb, ltb}
 use lib.ListN.{length}
 use Rattle.card.specs.declared.Card.TheVariants.{Wide}
 use Rattle.task.specs.declared.Task.{Task}
-use Rattle.task.specs.Limits.{largest, most_tasks, longest_period}
+use Rattle.task.specs.Limits.{largest, longest_period}
 use Rattle.task.specs.Tasks.{task, hyperperiod}
 use Rattle.task.proofs.Refusing.{Fine, Passed, passed}
 use Rattle.schedule.specs.declared.Policy.{Policy}
@@ -39,9 +39,6 @@ module _ {l : List Task} (N : NotRefused l) where
 
   pub short_deadlines : (i : ℕ) → i < length l → (task l i).deadline ≤ longest_period
   short_deadlines i b = omega (arith, (ok.fine i b).within, (ok.fine i b).short)
-
-  pub few : length l ≤ most_tasks
-  few = ok.few
 
   -- no key wraps, and none is the largest number
   key_small : (p : Policy) (i r : ℕ) → i < length l → r ≤ plenty →

@@ -1,7 +1,7 @@
 -- `arrive` meets its contract: none of the first i tasks was late, and their releases have happened.
 use Prim.Native.Nat.{ℕ, ◌<◌}
 use Rattle.state.specs.State.{Late}
-use Rattle.state.proofs.Releasing.{Halfway}
+use Rattle.state.proofs.Parts.{Halfway}
 use Rattle.checker.proofs.engine.Engine.arrive.Given as goal
 
 abbrev pub invariant-loop-i : goal.invariant-loop-i
