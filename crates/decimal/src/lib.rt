@@ -41,7 +41,7 @@ impl<'a> Page<'a> {
         }
     }
 
-    // A number without leading zeros.
+    // A number without leading zeros. Not by std's `write!`: no clause says that it succeeds, and laying can't fail.
     pub fn number(&mut self, n: usize)
         ensures { OnPage self.old (decimal n) self.new }
     {

@@ -28,7 +28,7 @@ pub extern "C" fn sholakpite_check_card(
     answered(tasks_of(list), card, policy, startup, cycle, row)
 }
 
-// The same, for a wide card.
+// The same, for a wide card: C callers from before there were cards have this name, and so have the two others without a card below and in texts.rt.
 #[unsafe(no_mangle)]
 pub extern "C" fn sholakpite_check(
     policy: u64,

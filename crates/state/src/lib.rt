@@ -1,4 +1,4 @@
-// What the slot engine keeps for each task at an instant. It has no code: the engine is in `checker`.
+// What the slot engine keeps for each task at an instant. It has no function: the engine is in `checker`.
 #![tactic(auto)]
 
 // The slots owed to a task, its next release, and the instant due and the key of its last released job.

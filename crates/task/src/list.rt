@@ -29,7 +29,7 @@ impl Tasks {
         n.min(Task::MOST)
     }
 
-    // The list of no tasks.
+    // The list of no tasks. A `Default` would be a second name for it: docs/PROMISES.md names this one.
     pub fn none() -> Self
         ensures { result ≡ empty }
     {

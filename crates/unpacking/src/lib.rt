@@ -17,12 +17,12 @@ pub struct Lengths {
     pub cycle: usize,
 }
 
-// No plan is handed over: there is none, the last trailer is refused, or a buffer is shorter than its part.
+// No plan is handed over: there is none, the last trailer is refused, or a buffer is shorter than its part. Each has the request's number.
 #[derive(Clone, Copy, Debug, PartialEq, Eq)]
 pub enum NoPlan {
-    Nothing,
-    Damaged,
-    Short,
+    Nothing = 20,
+    Damaged = 21,
+    Short = 22,
 }
 
 impl NoPlan {
@@ -30,11 +30,7 @@ impl NoPlan {
     pub fn number(self) -> usize
         ensures { result ≡ number_of self }
     {
-        match self {
-            NoPlan::Nothing => 20,
-            NoPlan::Damaged => 21,
-            NoPlan::Short => 22,
-        }
+        self as usize
     }
 }
 
