@@ -3,7 +3,7 @@
 use schedule::Policy;
 use task::Task;
 
-// It goes by value: behind a reference a slot reads both over and over, and takes up to a third longer.
+// It goes by value, as the slice in it does.
 #[derive(Clone, Copy)]
 pub(crate) struct Engine<'a> {
     pub(crate) policy: Policy,

@@ -82,18 +82,13 @@ fn serve(jobs: &mut [Job], chosen: Option<usize>) -> Option<usize>
     chosen
 }
 
-// One preemption more where the running job is not done and another task is next. As `running != following` it is slower.
+// One preemption more where the running job is not done and another task is next.
 fn switched(running: Option<usize>, following: Option<usize>, preemptions: usize) -> usize
     requires { preemptions < plenty }
     ensures { (n : ℕ) → IfSome running (λ i. i < n) → IfSome following (λ i. i < n) → result ≡ preemptions + one_if (ltb (unwrap_or running n) n && not (eqb (unwrap_or running n) (unwrap_or following n))) }
 {
-    let Some(i) = running else {
-        return preemptions;
-    };
-    if let Some(j) = following {
-        if i == j {
-            return preemptions;
-        }
+    if running.is_some() && running != following {
+        return preemptions + 1;
     }
-    preemptions + 1
+    preemptions
 }
