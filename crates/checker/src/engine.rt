@@ -1,5 +1,5 @@
-// The slot engine: a list under a policy. It changes neither; what it keeps, a job for each task, is lent to it. The jobs are no field of it: that there
-// is one for each task would be a ghost field beside a `&mut`, which no proof rule covers yet.
+// The slot engine: a list under a policy. It changes neither; what it keeps, a job for each task, is lent to each method. With the jobs as a field each
+// method would have to promise that the policy and the list stay.
 use schedule::Policy;
 use task::Task;
 
