@@ -20,8 +20,7 @@ use Rattle.std.specs.Prelude.{Some, None}
 use Rattle.line.specs.Lines.{parts}
 use Rattle.line.specs.Places.{until}
 use Rattle.line.specs.Kinds.{line_of, is_card, first_of}
-use Rattle.text.specs.Reading.{unread, with_task, at_end, tasks_on, card_on, with_policy, lines_of}
-use Rattle.line.proofs.Parts.{never}
+use Rattle.text.specs.Reading.{unread, with_task, tasks_on, card_on, lines_of}
 use Rattle.line.proofs.Places.{rest_is, behind, parts_until, behind_none, behind_mark}
 
 -- the first line, which ends at the first newline or at the end, and the lines after it
@@ -30,53 +29,36 @@ module _ (s : List ℕ) (end : ℕ) (is_end : end ≡ until newline s) where
   by_end = rw (parts_until newline s, ← is_end)
 
   -- no newline is left
-  by_torn : length s ≤ end → parts newline s ≡ take end s ∷ []
-  by_torn h = rw (by_end, behind_none newline s end h)
+  pub by_torn : length s ≤ end → parts newline s ≡ s ∷ []
+  by_torn h = rw (by_end, behind_none newline s end h, take_all end s h)
 
-  by_line : end < length s → parts newline s ≡ take end s ∷ parts newline (drop (end + 1) s)
-  by_line h = rw (by_end, behind_mark newline s end h, add-one)
+  -- what is left after it is as the code has it
+  abbrev pub after : List ℕ
+  after = take (length s - (end + 1)) (drop (end + 1) s)
 
-module _ (c : Card) (p : Policy) (l : List Task) (n : ℕ) where
-  -- a whole line, and the lines after it: there is always a part after a newline
-  tasks_whole : (line s : List ℕ)
-      → tasks_on c p l n (line ∷ parts newline s) ≡ with_task (line_of line) n λ τ. tasks_on c p (l ++ τ ∷ []) (suc n) (parts newline s)
-  tasks_whole line s = rw (parts_until newline s)
-
-  pub tasks_torn : (s : List ℕ) (end : ℕ) → end ≡ until newline s → 0 < length s → length s ≤ end → tasks_on c p l n (parts newline s) ≡ unread n
-  tasks_torn [] end is_end some h = absurd (omega arith)
-  tasks_torn (b ∷ s) end is_end some h = rw (by_torn (b ∷ s) end is_end h, take_all end (b ∷ s) h)
-
-  module _ (s : List ℕ) (end : ℕ) (is_end : end ≡ until newline s) (whole : end < length s) where
-    tasks_line : tasks_on c p l n (parts newline s) ≡ with_task (line_of (take end s)) n λ τ. tasks_on c p (l ++ τ ∷ []) (suc n) (parts newline (drop (end + 1) s))
-    tasks_line = rw (by_line s end is_end whole) (tasks_whole (take end s) (drop (end + 1) s))
-
-    pub tasks_not : None ≡ line_of (take end s) → tasks_on c p l n (parts newline s) ≡ unread n
-    tasks_not e = rw (tasks_line, ← e)
-
-    pub tasks_next : (τ : Task) → Some τ ≡ line_of (take end s)
-        → tasks_on c p l n (parts newline s) ≡ tasks_on c p (l ++ τ ∷ []) (suc n) (parts newline (drop (end + 1) s))
-    tasks_next τ e = rw (tasks_line, ← e)
+  pub by_line : end < length s → (parts newline s ≡ take end s ∷ parts newline after) × (length after < length s)
+  by_line h = (rw (by_end, behind_mark newline s end h, rest_is, add-one), rw (rest_is, length-drop) (omega arith))
 
 -- a line after the policy that is no card line is the first of the tasks
 pub no_card : (p : Policy) (line : List ℕ) (lines : List (List ℕ)) → is_card line ≡ false → card_on p (line ∷ lines) ≡ tasks_on Wide p [] 2 (line ∷ lines)
 no_card p line [] e = refl
 no_card p line (more ∷ lines) e = rw e
 
--- a card line is not empty
-card_end : (p : Policy) (line : List ℕ) → is_card line ≡ true → at_end Wide p [] 2 line ≡ unread 2
-card_end p [] e = never (cc)
-card_end p (b ∷ line) e = refl
+module _ (c : Card) (p : Policy) (l : List Task) (n : ℕ) (s : List ℕ) where
+  -- a whole line, and the lines after it: there is always a part after a newline
+  module _ (line rest : List ℕ) (whole : parts newline s ≡ line ∷ parts newline rest) where
+    tasks_line : tasks_on c p l n (parts newline s) ≡ with_task (line_of line) n λ τ. tasks_on c p (l ++ τ ∷ []) (suc n) (parts newline rest)
+    tasks_line = rw (whole, parts_until newline rest)
 
-module _ (p : Policy) (s : List ℕ) (end : ℕ) (is_end : end ≡ until newline s) where
-  pub card_not : is_card (take end s) ≡ false → card_on p (parts newline s) ≡ tasks_on Wide p [] 2 (parts newline s)
-  card_not e = rw (by_end s end is_end) (no_card p (take end s) (behind newline (drop end s)) e)
+    pub tasks_not : None ≡ line_of line → tasks_on c p l n (parts newline s) ≡ unread n
+    tasks_not e = rw (tasks_line, ← e)
 
-  module _ (e : is_card (take end s) ≡ true) where
-    pub card_torn : length s ≤ end → card_on p (parts newline s) ≡ unread 2
-    card_torn h = rw (by_torn s end is_end h) (card_end p (take end s) e)
+    pub tasks_next : (τ : Task) → Some τ ≡ line_of line → tasks_on c p l n (parts newline s) ≡ tasks_on c p (l ++ τ ∷ []) (suc n) (parts newline rest)
+    tasks_next τ e = rw (tasks_line, ← e)
 
-    pub card_small : end < length s → card_on p (parts newline s) ≡ tasks_on Small p [] 3 (parts newline (drop (end + 1) s))
-    card_small h = rw (by_line s end is_end h, parts_until newline (drop (end + 1) s), e)
+pub card_small : (p : Policy) (s line rest : List ℕ) → parts newline s ≡ line ∷ parts newline rest → is_card line ≡ true
+    → card_on p (parts newline s) ≡ tasks_on Small p [] 3 (parts newline rest)
+card_small p s line rest whole e = rw (whole, parts_until newline rest, e)
 
 -- what the loop over the lines keeps: the tasks so far, and that reading goes on with what is left
 pub record Reads (s : List ℕ) (c : Card) (p : Policy) (first : ℕ) (rest : List ℕ) (n : ℕ) (own : Tasks) : Type 0 where
@@ -91,33 +73,24 @@ begun s c p first own e =
     record { so_far = []; few = omega arith; lines = omega arith; held = e ∙ array_none; goes_on = refl }
 
 -- one line more was a task
-pub one_more : {s rest : List ℕ} {c : Card} {p : Policy} {first n : ℕ} {own : Tasks} (so : Reads s c p first rest n own) (end : ℕ) (τ : Task) (more : Tasks)
+pub one_more : {s rest : List ℕ} {c : Card} {p : Policy} {first n : ℕ} {own : Tasks} (so : Reads s c p first rest n own) (line more : List ℕ) (τ : Task) (with_it : Tasks)
     → length s < largest
-    → end ≡ until newline rest
-    → end < length rest
-    → Some τ ≡ line_of (take end rest)
-    → more ≡ added own τ
-    → Reads s c p first (take (length rest - (end + 1)) (drop (end + 1) rest)) (n + 1) more
-one_more {rest} {c} {p} {n} so end τ more small is_end whole task is-more =
-    rw rest_is record {
+    → (parts newline rest ≡ line ∷ parts newline more) × (length more < length rest)
+    → Some τ ≡ line_of line
+    → with_it ≡ added own τ
+    → Reads s c p first more (n + 1) with_it
+one_more {rest} {c} {p} {n} so line more τ with_it small whole task is-with =
+    record {
       so_far = so.so_far ++ τ ∷ [];
-      few = rw (length-append, length-drop) (omega (arith, so.few));
-      lines = rw length-drop (omega (arith, so.lines));
-      held = is-more ∙ ap (λ (ts : Tasks). added ts τ) so.held ∙ array_with so.so_far τ (omega (arith, so.few));
-      goes_on = so.goes_on ∙ tasks_next c p so.so_far n rest end is_end whole τ task ∙ ap (λ (k : ℕ). tasks_on c p (so.so_far ++ τ ∷ []) k (parts newline (drop (end + 1) rest))) (sym (add-one n));
+      few = rw length-append (omega (arith, so.few, whole.1));
+      lines = omega (arith, so.lines, whole.1);
+      held = is-with ∙ ap (λ (ts : Tasks). added ts τ) so.held ∙ array_with so.so_far τ (omega (arith, so.few, whole.1));
+      goes_on =
+          so.goes_on
+          ∙ tasks_next c p so.so_far n rest line more whole.0 τ task
+          ∙ ap (λ (k : ℕ). tasks_on c p (so.so_far ++ τ ∷ []) k (parts newline more)) (sym (add-one n));
     }
 
-module _ (s : List ℕ) (end : ℕ) (is_end : end ≡ until newline s) where
-  -- there is no newline at all
-  pub lines_torn : length s ≤ end → lines_of (parts newline s) ≡ unread 1
-  lines_torn h = rw (by_torn s end is_end h)
-
-  module _ (whole : end < length s) where
-    lines_first : lines_of (parts newline s) ≡ with_policy (first_of (take end s)) λ p. card_on p (parts newline (drop (end + 1) s))
-    lines_first = rw (by_line s end is_end whole, parts_until newline (drop (end + 1) s))
-
-    pub lines_not : None ≡ first_of (take end s) → lines_of (parts newline s) ≡ unread 1
-    lines_not e = rw (lines_first, ← e)
-
-    pub lines_next : (p : Policy) → Some p ≡ first_of (take end s) → lines_of (parts newline s) ≡ card_on p (parts newline (drop (end + 1) s))
-    lines_next p e = rw (lines_first, ← e)
+pub lines_next : (s line rest : List ℕ) → parts newline s ≡ line ∷ parts newline rest → (p : Policy) → Some p ≡ first_of line
+    → lines_of (parts newline s) ≡ card_on p (parts newline rest)
+lines_next s line rest whole p e = rw (whole, parts_until newline rest, ← e)

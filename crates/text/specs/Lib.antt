@@ -1,2 +1,3 @@
 pub mod Reading
 pub mod Held
+pub mod FirstLine

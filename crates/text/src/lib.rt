@@ -6,6 +6,7 @@ ghost use Rattle.decimal.specs.Bytes.{newline};
 ghost use Rattle.line.specs.Lines.{parts};
 ghost use Rattle.text.specs.Reading.{reading, lines_of, card_on, tasks_on, most_bytes};
 ghost use Rattle.text.specs.Held.{held};
+ghost use Rattle.text.specs.FirstLine.{IsFirstLine};
 
 use card::Card;
 use line::field::before;
@@ -45,27 +46,19 @@ pub fn read(s: &[u8]) -> Result<Listed, Unread>
 fn lines(s: &[u8]) -> Result<Listed, Unread>
     ensures { result ≡ held (lines_of (parts newline s.now)) }
 {
-    let end = before(s, NEWLINE);
-    if s.len() <= end {
-        return Err(Unread { line: 1 });
-    }
-    let policy = policy_of(&s[..end]).ok_or(Unread { line: 1 })?;
-    after_policy(&s[end + 1..], policy)
+    let (line, rest) = first_line(s).ok_or(Unread { line: 1 })?;
+    let policy = policy_of(line).ok_or(Unread { line: 1 })?;
+    after_policy(rest, policy)
 }
 
 // The lines from the second on: a list for a small card says so there, one for a wide card begins with its tasks.
-fn after_policy(rest: &[u8], policy: Policy) -> Result<Listed, Unread>
-    ensures { result ≡ held (card_on policy (parts newline rest.now)) }
+fn after_policy(s: &[u8], policy: Policy) -> Result<Listed, Unread>
+    ensures { result ≡ held (card_on policy (parts newline s.now)) }
 {
-    let end = before(rest, NEWLINE);
-    if !is_card(&rest[..end]) {
-        return tasks(rest, Card::Wide, policy, 2);
+    match first_line(s) {
+        Some((line, rest)) if is_card(line) => tasks(rest, Card::Small, policy, 3),
+        _ => tasks(s, Card::Wide, policy, 2),
     }
-    // A card's line needs its newline too.
-    if rest.len() <= end {
-        return Err(Unread { line: 2 });
-    }
-    tasks(&rest[end + 1..], Card::Small, policy, 3)
 }
 
 // The lines from the first task on. A list that is too long is read to its end: the array counts what it can't hold.
@@ -76,22 +69,32 @@ fn tasks(s: &[u8], card: Card, policy: Policy, first: usize) -> Result<Listed, U
     let mut rest = s;
     let mut n = first;
     let mut tasks = Tasks::none();
-    // A `for` over the parts between newlines would have to know the last, which is no line: it has to be empty.
-    while !rest.is_empty() {
-        let end = before(rest, NEWLINE);
-        if rest.len() <= end {
-            return Err(Unread { line: n });
-        }
-        let task = task_of(&rest[..end]).ok_or(Unread { line: n })?;
+    while let Some((line, more)) = first_line(rest) {
+        let task = task_of(line).ok_or(Unread { line: n })?;
         tasks = tasks.with(task);
-        rest = &rest[end + 1..];
+        rest = more;
         n += 1;
+    }
+    // After the last newline nothing may be left.
+    if !rest.is_empty() {
+        return Err(Unread { line: n });
     }
     Ok(Listed {
         card,
         policy,
         tasks,
     })
+}
+
+// The first line, without its newline, and the bytes after it; None where no newline is left.
+fn first_line(s: &[u8]) -> Option<(&[u8], &[u8])>
+    ensures { IsFirstLine s.now result }
+{
+    let end = before(s, NEWLINE);
+    if s.len() <= end {
+        return None;
+    }
+    Some((&s[..end], &s[end + 1..]))
 }
 
 // Ties the limit to the number of specs/.
