@@ -10,6 +10,7 @@ ghost use Rattle.report.specs.Report.{report};
 use answer::Answer;
 
 // The report of an answer and the tables that it left, and its length. It is measured first, by laying it into no buffer.
+// Output and writer measure in the same way, and each tests the length itself: must-fail edits of this crate and of the writer change that test.
 pub fn report(said: Answer, startup: &[u8], cycle: &[u8], out: &mut [u8]) -> Option<usize>
     ensures { Wrote (report (row said) startup.now cycle.now) out.old result out.new }
 {
