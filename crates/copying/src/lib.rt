@@ -1,4 +1,4 @@
-// Bytes copied into a lent slice, as many as there are and as fit.
+// Bytes copied into a lent slice, as many as there are and as fit. Places stand beside the slices, as docs/PROMISES.md names `fill` and `zeros` so.
 #![tactic(auto)]
 
 ghost use Rattle.std.specs.Prelude.{◌≡◌, ◌++◌, ◌+◌, ◌-◌, length, take, drop, replicate};

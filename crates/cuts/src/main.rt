@@ -16,7 +16,7 @@ const CYCLE: usize = Task::LONGEST_HYPERPERIOD;
 // Such a plan takes 782 blocks with its trailer, and the one before it two.
 const ROOM: usize = 784 * format::BLOCK;
 
-// How many bytes are used once a plan is appended.
+// How many bytes are used once a plan is appended, 0 where it is refused.
 fn append(log: &mut [u8], used: usize, plan: Plan) -> usize {
     plan_log::append(log, used, plan.startup, plan.cycle).unwrap_or(0)
 }
@@ -33,9 +33,10 @@ fn cut(log: &[u8], begun: usize, plan: Plan) -> Tally {
     let mut s = [0u8; STARTUP];
     let mut c = [0u8; CYCLE];
     let mut tally = Tally::default();
-    for j in begun..=log.len() {
+    for j in begun..log.len() {
         tally.add(look(&log[..j], plan, &mut s, &mut c));
     }
+    tally.add(look(log, plan, &mut s, &mut c));
     tally
 }
 

@@ -17,11 +17,9 @@ pub(crate) fn before() -> Plan<'static> {
     }
 }
 
-#[derive(Clone, Copy)]
+#[derive(Clone, Copy, Debug, PartialEq, Eq)]
 pub(crate) enum Seen {
-    Nothing,
-    Damaged,
-    Short,
+    No(NoPlan),
     Before,
     Newest,
     Other,
@@ -41,9 +39,9 @@ impl Tally {
     // No run counts so far that a count stays where it is.
     pub(crate) fn add(&mut self, seen: Seen) {
         match seen {
-            Seen::Nothing => self.nothing = self.nothing.saturating_add(1),
-            Seen::Damaged => self.damaged = self.damaged.saturating_add(1),
-            Seen::Short => self.short = self.short.saturating_add(1),
+            Seen::No(NoPlan::Nothing) => self.nothing = self.nothing.saturating_add(1),
+            Seen::No(NoPlan::Damaged) => self.damaged = self.damaged.saturating_add(1),
+            Seen::No(NoPlan::Short) => self.short = self.short.saturating_add(1),
             Seen::Before => self.before = self.before.saturating_add(1),
             Seen::Newest => self.newest = self.newest.saturating_add(1),
             Seen::Other => self.other = self.other.saturating_add(1),
@@ -83,9 +81,7 @@ pub(crate) fn look(log: &[u8], newest: Plan, s: &mut [u8], c: &mut [u8]) -> Seen
     spoil(s);
     spoil(c);
     match plan_log::read(log, s, c) {
-        Err(NoPlan::Nothing) => Seen::Nothing,
-        Err(NoPlan::Damaged) => Seen::Damaged,
-        Err(NoPlan::Short) => Seen::Short,
+        Err(none) => Seen::No(none),
         Ok(lengths) => match (s.get(..lengths.startup), c.get(..lengths.cycle)) {
             (Some(startup), Some(cycle)) => which(Plan { startup, cycle }, newest),
             _ => Seen::Other,

@@ -3,11 +3,11 @@
 
 mod lay;
 
-ghost use Rattle.std.specs.Prelude.{◌≡◌, ◌+◌, ◌*◌, ◌≤◌};
-ghost use Rattle.format.specs.Blocks.{block_length, blocks_for, largest_length};
+ghost use Rattle.std.specs.Prelude.{◌≡◌};
 ghost use Rattle.packing.specs.Packing.{PackedAt, number_of};
 
-use format::{BLOCK, LARGEST};
+use format::BLOCK;
+use lay::Parts;
 
 // The plan is refused: it doesn't fit, or a length is above 65,535.
 #[derive(Clone, Copy, Debug, PartialEq, Eq)]
@@ -26,25 +26,15 @@ impl NoRoom {
 pub fn plan(log: &mut [u8], at: usize, startup: &[u8], cycle: &[u8]) -> Result<usize, NoRoom>
     ensures { PackedAt log.old at startup.now cycle.now result log.new }
 {
-    if LARGEST < startup.len() {
-        return Err(NoRoom);
-    }
-    if LARGEST < cycle.len() {
-        return Err(NoRoom);
-    }
-    let n = length(startup.len(), cycle.len());
+    let s = u16::try_from(startup.len()).map_err(|_| NoRoom)?;
+    let c = u16::try_from(cycle.len()).map_err(|_| NoRoom)?;
+    let count = format::blocks_for(usize::from(s) + usize::from(c));
+    let n = BLOCK * count + BLOCK;
     if log.len().saturating_sub(at) < n {
         return Err(NoRoom);
     }
-    lay::whole(&mut log[at..at + n], startup, cycle);
+    let last = at + BLOCK * count;
+    lay::blocks(&mut log[at..last], Parts { startup, cycle }, count);
+    lay::trailer(&mut log[last..last + BLOCK], count as u16, s, c);
     Ok(at + n)
-}
-
-// How many bytes a plan takes with its trailer.
-fn length(startup: usize, cycle: usize) -> usize
-    requires startup_small { startup ≤ largest_length }
-    requires cycle_small { cycle ≤ largest_length }
-    ensures { result ≡ block_length * blocks_for (startup + cycle) + block_length }
-{
-    BLOCK * format::blocks_for(startup + cycle) + BLOCK
 }

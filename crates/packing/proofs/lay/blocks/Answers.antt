@@ -7,4 +7,4 @@ pub loop-i-preserved : goal.loop-i-preserved
 loop-i-preserved c =
     let l = c.loop-i in
     let x = c.args in
-    laid_more (x.startup.now ++ x.cycle.now) x.out.now l.i l.out c.block.new.out l.invariant c.block.ensures
+    laid_more (x.parts.startup.now ++ x.parts.cycle.now) x.out.now l.i l.out c.block.new.out l.invariant c.block.ensures
