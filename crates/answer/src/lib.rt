@@ -7,7 +7,7 @@ ghost use Rattle.answer.specs.Tables.{byte_of};
 
 use refusal::Refusal;
 
-// A table entry of an idle slot; any other entry is a task number.
+// A table entry of an idle slot; any other entry is a task number. A byte, since callers in C lend the tables.
 pub const IDLE: u8 = 255;
 
 // What is said of a feasible list: M, H and L, and the counts of the two parts.
@@ -22,6 +22,7 @@ pub struct Plan {
     pub cycle_preemptions: usize,
 }
 
+// The four cases of document 01: a refusal and a miss hold the paper's values.
 #[derive(Clone, Copy, Debug, PartialEq, Eq)]
 pub enum Answer {
     Refused(Refusal, usize),

@@ -21,6 +21,7 @@ pub fn before(s: &[u8], mark: u8) -> usize
     s.iter().position(|b| *b == mark).unwrap_or(s.len())
 }
 
+// `==` under a name: in the callers it would want `.as_slice()` behind each byte string, and a proof for each that this contract saves.
 pub(crate) fn same(a: &[u8], b: &[u8]) -> bool
     ensures { result ≡ same a.now b.now }
 {

@@ -2,7 +2,7 @@
 #![tactic(auto)]
 
 pub mod field;
-pub mod number;
+mod number;
 
 ghost use Rattle.std.specs.Prelude.{◌≡◌};
 ghost use Rattle.line.specs.Lines.{largest_number};

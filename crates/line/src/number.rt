@@ -16,7 +16,7 @@ pub(crate) fn value_of(field: &[u8]) -> Option<usize>
     }
 }
 
-// A value above the limit goes no further, so that none wraps.
+// By hand, since the library's `parse` wants a `str`, and takes a plus sign and leading zeros. A value above the limit goes no further, so that none wraps.
 fn digits(field: &[u8]) -> Option<usize>
     ensures { result ≡ within (value_on 0 field.now) }
 {

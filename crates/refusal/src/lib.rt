@@ -18,7 +18,7 @@ pub enum Refusal {
     Timer = 9,
 }
 
-// Why a check refuses, and which task.
+// Why a check refuses, and which task; 0 where the paper gives no task.
 #[derive(Clone, Copy, Debug, PartialEq, Eq)]
 pub struct Refused {
     pub why: Refusal,

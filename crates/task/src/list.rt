@@ -1,5 +1,5 @@
 // Our own array of tasks, with a count. Document 01, "What a task list says".
-ghost use Rattle.std.specs.Prelude.{◌≡◌, set};
+ghost use Rattle.std.specs.Prelude.{◌≡◌};
 ghost use Rattle.task.specs.Arrays.{blank, fitting, empty, stored, added};
 
 use crate::Task;

@@ -20,14 +20,14 @@ pub const MOST_BYTES: usize = 4096;
 const NEWLINE: u8 = b'\n';
 
 // A list, with its card and its policy.
-#[derive(Clone, Copy)]
+#[derive(Clone, Copy, Debug, PartialEq, Eq)]
 pub struct Listed {
     pub card: Card,
     pub policy: Policy,
     pub tasks: Tasks,
 }
 
-// The first line that can't be read, 0 for an input that is too long.
+// The first line that can't be read; 0, as the output prints it, for an input that is too long.
 #[derive(Clone, Copy, Debug, PartialEq, Eq)]
 pub struct Unread {
     pub line: usize,
@@ -66,18 +66,13 @@ fn tasks(s: &[u8], card: Card, policy: Policy, first: usize) -> Result<Listed, U
     requires { first ≤ 3 }
     ensures { result ≡ held (tasks_on card policy [] first (parts newline s.now)) }
 {
-    let mut rest = s;
-    let mut n = first;
     let mut tasks = Tasks::none();
-    while let Some((line, more)) = first_line(rest) {
-        let task = task_of(line).ok_or(Unread { line: n })?;
+    for (i, line) in s.split_inclusive(|b| *b == NEWLINE).enumerate() {
+        let unread = Unread { line: first + i };
+        // The last line needs its newline too.
+        let line = line.strip_suffix(&[NEWLINE]).ok_or(unread)?;
+        let task = task_of(line).ok_or(unread)?;
         tasks = tasks.with(task);
-        rest = more;
-        n += 1;
-    }
-    // After the last newline nothing may be left.
-    if !rest.is_empty() {
-        return Err(Unread { line: n });
     }
     Ok(Listed {
         card,

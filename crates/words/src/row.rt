@@ -8,7 +8,7 @@ use answer::Answer;
 // The words that the caller lends for an answer.
 pub(crate) const LENGTH: usize = 8;
 
-// Writes the answer's values, in the paper's order, and gives its code.
+// Writes the answer's values, in the paper's order, and gives its code, a number for C.
 pub(crate) fn tell(answer: Answer, row: &mut [u64]) -> u64
     requires { row_length ≤ length row.old }
     ensures { (result ≡ code (row_of answer)) × (row.new ≡ written (row_of answer) row.old) }

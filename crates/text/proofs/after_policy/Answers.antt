@@ -6,4 +6,4 @@ use Rattle.text.proofs.after_policy.Goals as goal
 
 pub returns-in-Some : goal.returns-in-Some
 returns-in-Some c =
-    c.tasks.ensures ∙ sym (ap held (card_small c.args.policy c.args.s.now c.in-Some.line.now c.in-Some.rest.now c.in-Some.ensures.0 (sym c.is_card.ensures ∙ c.if-is_card.true)))
+    c.tasks.ensures ∙ sym (ap held (card_small c.args.policy c.args.s.now c.in-Some.line.now c.in-Some.rest.now c.in-Some.ensures (sym c.is_card.ensures ∙ c.if-is_card.true)))

@@ -1,25 +1,43 @@
 -- `tasks` meets its contract: line after line, with the tasks so far in the array.
-use mathlib.Core.Path.{◌≡◌, sym, ◌∙◌, ap}
-use native.Mathlib.Omega.{arith}
-use borrow.Author.Rules.{rules}
-use Rattle.std.specs.Prelude.{Err}
+use Rattle.std.proofs.Common.{arith, rules, tests, sym, ap, ◌≡◌, ◌∙◌, ◌+◌, Err}
+use Rattle.std.proofs.lemmas.List.{nil_from_length}
 use Rattle.text.specs.Held.{held}
-use Rattle.text.proofs.Reading.{begun, one_more, tasks_not}
+use Rattle.text.proofs.Reading.{begun, piece, ends_with, ends_without, one_more, tasks_torn, piece_not}
 use Rattle.text.proofs.tasks.Goals as goal
 
-pub loop-line-init : goal.loop-line-init
-loop-line-init c = begun c.args.s.now c.args.card c.args.policy c.args.first c.none-tasks.result c.none-tasks.ensures
+pub loop-i-init : goal.loop-i-init
+loop-i-init c = begun _ _ _ _ _ _ _ (search rules) (search rules) c.none-tasks.ensures
+
+pub loop-i-preserved : goal.loop-i-preserved
+loop-i-preserved c =
+    let next = piece (λ x b q k. search (rules, tests)) c.in-Some.ensures.steps.0 in
+    let whole = ends_with c.in-Some.line.now c.strip_suffix.result c.strip_suffix.ensures.cases c.in_ok-line.line c.in_ok-line.ensures.ok_part in
+    let counted = c.in-Some.ensures.steps.2 in
+    one_more c.loop-i.invariant (omega (arith, c.well_formed)) next c.in_ok-line.line.now whole c.in_ok-task.task (sym c.in_ok-task.ensures.ok_part ∙ c.task_of.ensures)
+    c.with-tasks.result c.with-tasks.ensures (omega (arith, counted))
+
+pub returns-in_err-line : goal.returns-in_err-line
+returns-in_err-line c =
+    let l = c.loop-i in
+    let x = c.args in
+    let torn = ends_without c.in-Some.line.now c.strip_suffix.result c.strip_suffix.ensures.cases c.in_err-line.ensures.ok_part in
+    let said : c.from_residual.result ≡ Err (record { line = x.first + c.in-Some.i }) = search rules in
+    rw c.in-Some.ensures.steps.1 at said
+    ∙ sym (ap held (l.invariant.goes_on ∙ tasks_torn x.card x.policy l.invariant.so_far _ _ _ _ (piece (λ x b q k. search (rules, tests)) c.in-Some.ensures.steps.0) torn))
 
 pub returns-in_err-task : goal.returns-in_err-task
 returns-in_err-task c =
-    let l = c.loop-line in
+    let l = c.loop-i in
     let x = c.args in
-    let said : c.from_residual.result ≡ Err (record { line = l.n }) = search rules in
-    said
-    ∙ sym (ap held (l.invariant.goes_on
-    ∙ tasks_not x.card x.policy l.invariant.so_far l.n l.rest.now c.in-Some.line.now c.in-Some.more.now c.in-Some.ensures.0
-    (sym c.in_err-task.ensures.ok_part ∙ c.task_of.ensures)))
+    let next = piece (λ x b q k. search (rules, tests)) c.in-Some.ensures.steps.0 in
+    let whole = ends_with c.in-Some.line.now c.strip_suffix.result c.strip_suffix.ensures.cases c.in_ok-line.line c.in_ok-line.ensures.ok_part in
+    let said : c.from_residual-in_err-task.result ≡ Err (record { line = x.first + c.in-Some.i }) = search rules in
+    rw c.in-Some.ensures.steps.1 at said
+    ∙ sym (ap held (l.invariant.goes_on ∙ piece_not x.card x.policy l.invariant.so_far _ _ _ _ next _ whole (sym c.in_err-task.ensures.ok_part ∙ c.task_of.ensures)))
 
-pub loop-line-preserved : goal.loop-line-preserved
-loop-line-preserved c =
-    one_more c.loop-line.invariant c.in-Some.line.now c.in-Some.more.now c.in_ok-task.task c.with-tasks.result (omega (arith, c.well_formed)) c.in-Some.ensures (sym c.in_ok-task.ensures.ok_part ∙ c.task_of.ensures) c.with-tasks.ensures
+-- nothing is left
+pub returns : goal.returns
+returns c =
+    let l = c.loop-i in
+    let end = nil_from_length _ c.in-None.ensures.steps.0.0 in
+    rw (l.invariant.held, l.invariant.goes_on, end)

@@ -1,10 +1,10 @@
 -- `tasks` meets its contract: line after line, with the tasks so far in the array.
-use lib.ListN.{length}
+use Prim.Native.Nat.{◌+◌}
+use Rattle.std.specs.Iterator.Adapters.{enumerate_source, enumerate_count}
+use Rattle.std.specs.Slice.Iter.{split_inclusive_rest}
 use Rattle.text.proofs.Reading.{Reads}
 use Rattle.text.proofs.tasks.Given as goal
 
-abbrev pub invariant-loop-line : goal.invariant-loop-line
-invariant-loop-line l = Reads l.s l.card l.policy l.first l.rest l.n l.tasks
-
-abbrev pub decreases-loop-line : goal.decreases-loop-line
-decreases-loop-line l = length l.rest
+abbrev pub invariant-loop-i : goal.invariant-loop-i
+invariant-loop-i l =
+    Reads l.s l.card l.policy l.first (split_inclusive_rest (enumerate_source l.i-iterator)) (l.first + enumerate_count l.i-iterator) l.tasks
