@@ -1,2 +1,3 @@
+pub mod LeftOver
 pub mod TextCalls
 pub mod LogCalls

@@ -4,9 +4,12 @@
 mod logs;
 mod texts;
 
-ghost use Rattle.words.specs.Words.{Answered, AnsweredWords, wide_card};
+ghost use Rattle.std.specs.Prelude.{◌≡◌, cond, Some, None};
+ghost use Rattle.task.specs.Arrays.{array_of};
+ghost use Rattle.words.specs.Words.{Answered, AnsweredWords, wide_card, tasks_of, ragged};
 
 use task::Task;
+use task::list::Tasks;
 use words::list::tasks_of;
 use words::{NOT_UNDERSTOOD, answered, list};
 
@@ -22,13 +25,13 @@ pub extern "C" fn sholakpite_check_card(
 ) -> u64
     ensures { AnsweredWords card policy list.now startup.old cycle.old row.old result startup.new cycle.new row.new }
 {
-    if list.len() % list::EACH != 0 {
+    let Some(own) = whole(list) else {
         return NOT_UNDERSTOOD;
-    }
-    answered(tasks_of(list), card, policy, startup, cycle, row)
+    };
+    answered(own, card, policy, startup, cycle, row)
 }
 
-// The same, for a wide card: C callers from before there were cards have this name, and so have the two others without a card below and in texts.rt.
+// The same, for a wide card: C callers from before there were cards have this name.
 #[unsafe(no_mangle)]
 pub extern "C" fn sholakpite_check(
     policy: u64,
@@ -57,7 +60,7 @@ pub extern "C" fn sholakpite_check_tasks_card(
     answered(lent::load(list), card, policy, startup, cycle, row)
 }
 
-// For a lent list of task structs, and a wide card.
+// For a lent list of task structs, and a wide card: C callers from before there were cards have this name.
 #[unsafe(no_mangle)]
 pub extern "C" fn sholakpite_check_tasks(
     policy: u64,
@@ -69,4 +72,14 @@ pub extern "C" fn sholakpite_check_tasks(
     ensures { Answered wide_card policy list.now startup.old cycle.old row.old result startup.new cycle.new row.new }
 {
     sholakpite_check_tasks_card(list::WIDE, policy, list, startup, cycle, row)
+}
+
+// The tasks of a list of words, where no word is left over.
+fn whole(list: &[u64]) -> Option<Tasks>
+    ensures { result ≡ cond (ragged list.now) None (Some (array_of (tasks_of list.now))) }
+{
+    if list.len() % list::EACH != 0 {
+        return None;
+    }
+    Some(tasks_of(list))
 }

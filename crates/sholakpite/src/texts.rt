@@ -2,7 +2,8 @@
 ghost use Rattle.words.specs.Words.{wide_card};
 ghost use Rattle.sholakpite.specs.Texts.{AnsweredText, WrittenText};
 
-use words::list::{tasks_of, understood};
+use crate::whole;
+use words::list::understood;
 use words::{NOT_UNDERSTOOD, list};
 
 // What the program prints for an input, and its length; 0, with nothing written, where `out` is shorter.
@@ -18,19 +19,19 @@ pub extern "C" fn sholakpite_answer(input: &[u8], out: &mut [u8]) -> u64
 pub extern "C" fn sholakpite_write_card(card: u64, policy: u64, list: &[u64], out: &mut [u8]) -> u64
     ensures { WrittenText card policy list.now out.old result out.new }
 {
-    if list.len() % list::EACH != 0 {
+    let Some(own) = whole(list) else {
         return NOT_UNDERSTOOD;
-    }
+    };
     let Some((card, policy)) = understood(card, policy) else {
         return NOT_UNDERSTOOD;
     };
-    match writer::write(tasks_of(list), card, policy, out) {
+    match writer::write(own, card, policy, out) {
         Ok(length) => length as u64,
         Err(unwritable) => unwritable.number() as u64,
     }
 }
 
-// The same, for a wide card.
+// The same, for a wide card: C callers from before there were cards have this name.
 #[unsafe(no_mangle)]
 pub extern "C" fn sholakpite_write(policy: u64, list: &[u64], out: &mut [u8]) -> u64
     ensures { WrittenText wide_card policy list.now out.old result out.new }
