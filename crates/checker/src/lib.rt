@@ -15,6 +15,7 @@ ghost use Rattle.task.specs.declared.Task.{Task};
 ghost use Rattle.task.specs.Arrays.{Holds};
 ghost use Rattle.answer.specs.Promise.{Promised};
 
+use crate::engine::Engine;
 use answer::Answer;
 use card::Card;
 use schedule::Policy;
@@ -31,5 +32,12 @@ pub fn check(
 ) -> Answer
     ensures { (l : List Task) → Holds list l → Promised card policy l startup.old cycle.old result startup.new cycle.new }
 {
-    judge::checked(list.items, list.count, card, policy, startup, cycle)
+    let admitted = admission::admit(list, card, startup.len(), cycle.len());
+    match admitted {
+        Err(refused) => Answer::Refused(refused.why, refused.task),
+        Ok(measures) => {
+            let tasks = &list.items[..list.count];
+            Engine { policy, tasks }.judged(measures, startup, cycle)
+        }
+    }
 }

@@ -30,12 +30,11 @@ impl Engine<'_> {
         requires { length jobs.old ≡ length self.tasks.now }
         ensures { Fresh self.entry.tasks.now jobs.new }
     {
+        // By index, and not with `zip(self.tasks)`: no proof knows the elements that were written through `iter_mut` inside a `zip`.
         for (i, job) in jobs.iter_mut().enumerate() {
             *job = Job {
-                owed: 0,
                 next: self.tasks[i].offset,
-                due: 0,
-                key: 0,
+                ..Job::default()
             };
         }
     }

@@ -4,7 +4,7 @@ ghost use Rattle.task.specs.Limits.{most_tasks};
 ghost use Rattle.schedule.specs.Job.{one_if, FirstMiss};
 ghost use Rattle.schedule.specs.Endless.{endless};
 ghost use Rattle.answer.specs.Tables.{byte_of};
-ghost use Rattle.state.specs.State.{job_of, IsReady, Found, Served};
+ghost use Rattle.state.specs.State.{job_of, IsReady, Found, Served, OnlyOwed};
 ghost use Rattle.state.specs.Engine.{plenty, Instant, Put, Stepped};
 
 use crate::engine::Engine;
@@ -71,7 +71,8 @@ fn put(entry: &mut u8, chosen: Option<usize>, idle: usize) -> usize
 // One slot less is owed to the chosen task. It is handed back where its job is not yet done.
 fn serve(jobs: &mut [Job], chosen: Option<usize>) -> Option<usize>
     requires { IfSome chosen (λ i. (i < length jobs.old) × IsReady (job_of jobs.old i)) }
-    ensures { Found (length jobs.old) result (Served (length jobs.old) (unwrap_or chosen (length jobs.old)) jobs.old jobs.new) }
+    ensures served { Found (length jobs.old) result (Served (length jobs.old) (unwrap_or chosen (length jobs.old)) jobs.old jobs.new) }
+    ensures others { OnlyOwed (length jobs.old) jobs.old jobs.new }
 {
     let i = chosen?;
     let left = jobs[i].owed - 1;

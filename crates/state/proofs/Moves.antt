@@ -19,7 +19,7 @@ use Rattle.schedule.proofs.Chosen.{had_by, endless_run}
 use Rattle.schedule.proofs.Keys.{ahead_of}
 use Rattle.schedule.proofs.Schedule.{endless_late, endless_miss}
 use Rattle.state.specs.declared.Job.{Job}
-use Rattle.state.specs.State.{at, job_of, present, before, packed, Working, KeptBefore, KeptAt, Clear, First, Late, Picked, Served, released, Released}
+use Rattle.state.specs.State.{at, job_of, present, before, packed, Working, KeptBefore, KeptAt, Clear, First, Late, Picked, Served, OnlyOwed, released, Released}
 use Rattle.state.proofs.Packing.{packed_ahead}
 
 not_both : (a b i j : ℕ) → (a < b) ⊎ ((a ≡ b) × (i < j)) → (b < a) ⊎ ((b ≡ a) × (j ≤ i)) → ⊥
@@ -104,17 +104,17 @@ module _ (p : Policy) {l : List Task} {H : ℕ} (w : Sound l H) where
         let many : s / C ≤ s' / C = div_mono (w.runs i b) (omega (arith, (endless_run p l).step t i b)) in
         omega arith
 
-    pub kept_served : KeptBefore p l (suc t) jobs'
-    kept_served = record {
+    pub kept_served : OnlyOwed (length l) jobs jobs' → KeptBefore p l (suc t) jobs'
+    kept_served others = record {
       owed_is = λ i b. had_next i b ∙ x.owed_is i b;
-      next_is = λ i b. ap (λ j. j.next) (sv.others i b) ∙ x.next_is i b;
+      next_is = λ i b. ap (λ j. j.next) (others i b) ∙ x.next_is i b;
       working = λ i b h.
           let W = x.working i b (omega (arith, sv.each i b)) in
           let e = same_job i b h in
           record {
             last = ap suc e ∙ W.last;
-            due_is = ap (λ j. j.due) (sv.others i b) ∙ rw e W.due_is;
-            key_is = ap (λ j. j.key) (sv.others i b) ∙ rw e W.key_is;
+            due_is = ap (λ j. j.due) (others i b) ∙ rw e W.due_is;
+            key_is = ap (λ j. j.key) (others i b) ∙ rw e W.key_is;
           };
     }
 

@@ -25,7 +25,7 @@ use Rattle.schedule.proofs.Chosen.{endless_run}
 use Rattle.schedule.proofs.Schedule.{endless_slots}
 use Rattle.answer.specs.Tables.{byte_of, preempts}
 use Rattle.state.specs.declared.Job.{Job}
-use Rattle.state.specs.State.{at, job_of, present, packed, IsReady, KeptBefore, KeptAt, Clear, First, Late, Picked, Served, Fitting, AllReleased}
+use Rattle.state.specs.State.{at, job_of, present, packed, IsReady, KeptBefore, KeptAt, Clear, First, Late, Picked, Served, OnlyOwed, Fitting, AllReleased}
 use Rattle.state.specs.Engine.{plenty, NotRefused, Instant, Put, Stepped}
 use Rattle.state.proofs.Moves.{owed_waits, picked_is, kept_served, first_miss, clear_next, kept_released}
 use Rattle.state.proofs.Preempted.{preempted}
@@ -90,12 +90,12 @@ module _ {p : Policy} {l : List Task} {t : ℕ} {jobs : List Job} {chosen : ℕ}
     | no h ↦ rw ((endless_slots p l).rest t (omega (arith, I.is_chosen))) ((x.rests (omega arith)).0, (x.rests (omega arith)).1)
   ]
 
-  module _ {jobs₁ : List Job} {running : ℕ} (sv : Served (length l) chosen jobs jobs₁ running) where
+  module _ {jobs₁ : List Job} {running : ℕ} (sv : Served (length l) chosen jobs jobs₁ running) (others : OnlyOwed (length l) jobs jobs₁) where
     served_is : Served (length l) (pick_at p l t) jobs jobs₁ running
     served_is = rw I.is_chosen at sv
 
     kept₁ : KeptBefore p l (suc t) jobs₁
-    kept₁ = kept_served p (w N) t jobs jobs₁ running I.kept served_is
+    kept₁ = kept_served p (w N) t jobs jobs₁ running I.kept served_is others
 
     -- no more than one job's run time is owed
     one_job : (i : ℕ) → i < length l → (job_of jobs₁ i).owed ≤ (task l i).run

@@ -10,7 +10,7 @@ use Rattle.schedule.specs.Job.{release, due, one_if, Key, key_from, key_of, Miss
 use Rattle.schedule.specs.Endless.{arrived, served, endless}
 use Rattle.state.specs.declared.Job.{Job}
 
--- number i of an array
+-- number i of a list; 0 past the end
 abbrev pub at : List ℕ → ℕ → ℕ
 at l i = get_or l i 0
 
@@ -85,17 +85,20 @@ pub record Picked (jobs : List Job) (n r : ℕ) : Type 0 where
       ((job_of jobs r).key < (job_of jobs j).key) ⊎ (((job_of jobs r).key ≡ (job_of jobs j).key) × (r ≤ j))
   pub none : n ≤ r → (j : ℕ) → j < n → IsReady (job_of jobs j) → ⊥
 
+-- slot c given to one of the first n tasks, or to none: one slot less is owed to it, and r is the task where its job is not yet done
+pub record Served (n c : ℕ) (jobs jobs' : List Job) (r : ℕ) : Type 0 where
+  pub each : (i : ℕ) → i < n → (job_of jobs' i).owed + one_if (eqb c i) ≡ (job_of jobs i).owed
+  pub left : c < n → 0 < (job_of jobs' c).owed → r ≡ c
+  pub done : (c < n → (job_of jobs' c).owed ≡ 0) → r ≡ n
+  pub sized : length jobs' ≡ length jobs
+
 -- a job to which so many slots are owed
 abbrev pub owing : Job → ℕ → Job
 owing j owed = record j { owed = owed }
 
--- slot c given to one of the first n tasks, or to none: one slot less is owed to it, and r is the task where its job is not yet done
-pub record Served (n c : ℕ) (jobs jobs' : List Job) (r : ℕ) : Type 0 where
-  pub each : (i : ℕ) → i < n → (job_of jobs' i).owed + one_if (eqb c i) ≡ (job_of jobs i).owed
-  pub others : (i : ℕ) → i < n → job_of jobs' i ≡ owing (job_of jobs i) (job_of jobs' i).owed
-  pub left : c < n → 0 < (job_of jobs' c).owed → r ≡ c
-  pub done : (c < n → (job_of jobs' c).owed ≡ 0) → r ≡ n
-  pub sized : length jobs' ≡ length jobs
+-- of each of the first n jobs no more than the slots owed has changed
+abbrev pub OnlyOwed : ℕ → List Job → List Job → Type 0
+OnlyOwed n jobs jobs' = (i : ℕ) → i < n → job_of jobs' i ≡ owing (job_of jobs i) (job_of jobs' i).owed
 
 -- what a release of task i at t makes of what is kept for it
 abbrev pub released : Policy → ℕ → Task → ℕ → Job → Job

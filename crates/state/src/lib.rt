@@ -2,7 +2,7 @@
 #![tactic(auto)]
 
 // The slots owed to a task, its next release, and the instant due and the key of its last released job.
-#[derive(Clone, Copy, Debug, PartialEq, Eq)]
+#[derive(Clone, Copy, Debug, Default, PartialEq, Eq)]
 pub struct Job {
     pub owed: usize,
     pub next: usize,
