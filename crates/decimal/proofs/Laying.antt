@@ -7,8 +7,8 @@ use native.Mathlib.Decide.{dec_le}
 use native.Mathlib.Nat.{add-zero, zero-add, add-suc, suc-add}
 use lib.ListN.{length, set, drop, length-append}
 use lib.Seq.{sets, sets-eq, set_out, length-sets}
-use borrow.Author.Tests.{lt-ltb, le-ltb}
-use Rattle.std.specs.Prelude.{Some, None}
+use borrow.Author.Tests.{le-ltb}
+use Rattle.std.specs.Prelude.{Some}
 use Rattle.task.specs.Limits.{largest}
 use Rattle.decimal.specs.declared.Page.{Page}
 use Rattle.decimal.specs.Laying.{Laid, OnPage, Wrote}
@@ -58,27 +58,16 @@ page_as e h = rw e at h
 pub page_length : {a b : Page} {text : List ℕ} → OnPage a text b → length b.out.now ≡ length a.out.now
 page_length h = laid_length h.laid
 
--- what was laid on a page that was made of a buffer
-pub page_buffer : {a b : Page} {text buffer left : List ℕ} → (a.out.now ≡ buffer) × (a.at ≡ 0) → left ≡ b.out.now → OnPage a text b → Laid 0 text buffer b.at left
-page_buffer {b} {text} begun is_left x =
-    rw is_left (rw begun.1 at (rw begun.0 at x.laid))
-
 -- a text that fits, laid from the start
-pub laid_whole : {m : ℕ} {text buffer left : List ℕ} → length buffer ≤ largest → length text ≤ length buffer → Laid 0 text buffer m left
+laid_whole : {m : ℕ} {text buffer left : List ℕ} → length buffer ≤ largest → length text ≤ length buffer → Laid 0 text buffer m left
     → (m ≡ length text) × (left ≡ text ++ drop (length text) buffer)
 laid_whole {m} {text} {buffer} small h laid =
     (omega (arith, laid.place), laid.filled ∙ sets-eq text buffer 0 (omega arith) ∙ ap (λ (k : ℕ). text ++ drop k buffer) (zero-add (length text)))
 
 -- a text is measured by laying it into no buffer
 module _ {n : ℕ} {text none : List ℕ} (buffer : List ℕ) (small : length buffer < largest) (measured : Laid 0 text [] n none) where
-  pub is_short : length buffer < n → length buffer < length text
-  is_short h = omega (arith, measured.place)
-
-  pub is_room : n ≤ length buffer → length text ≤ length buffer
+  is_room : n ≤ length buffer → length text ≤ length buffer
   is_room h = omega (arith, measured.place)
-
-  pub wrote_short : length buffer < n → Wrote text buffer None buffer
-  wrote_short h = simp (lt-ltb (length buffer) (length text) (is_short h)) (record { is_short = refl; kept = refl })
 
   pub wrote_whole : {m : ℕ} {left : List ℕ} → n ≤ length buffer → Laid 0 text buffer m left → Wrote text buffer (Some m) left
   wrote_whole h laid =

@@ -1,13 +1,14 @@
 // Bytes and numbers in decimal, laid into a lent buffer one after the other.
 #![tactic(auto)]
 
-ghost use Rattle.std.specs.Prelude.{◌≡◌, [], ◌∷◌, ◌<◌};
+ghost use Rattle.std.specs.Prelude.{◌≡◌, List, [], ◌∷◌, ℕ, ◌<◌};
 ghost use Rattle.decimal.specs.Decimal.{decimal, digit};
-ghost use Rattle.decimal.specs.Laying.{OnPage};
+ghost use Rattle.decimal.specs.Laying.{Laid, OnPage, Wrote};
 
 const BASE: usize = 10;
 
-// A lent buffer, and the place in it where the next byte goes.
+// A lent buffer, and the place in it where the next byte goes. Texts are laid on it by pieces, and numbers by hand, not by std's `write!`:
+// there is no memory but the buffer, a text is measured before it is written, and no clause of `write!` says that it succeeds.
 #[derive(Drop)]
 pub struct Page<'a> {
     pub out: &'a mut [u8],
@@ -33,6 +34,7 @@ impl<'a> Page<'a> {
         self.at = self.at.saturating_add(1);
     }
 
+    // A word, byte after byte.
     pub fn word(&mut self, text: &[u8])
         ensures { OnPage self.old text.now self.new }
     {
@@ -41,7 +43,7 @@ impl<'a> Page<'a> {
         }
     }
 
-    // A number without leading zeros. Not by std's `write!`: no clause says that it succeeds, and laying can't fail.
+    // A number without leading zeros.
     pub fn number(&mut self, n: usize)
         ensures { OnPage self.old (decimal n) self.new }
     {
@@ -52,6 +54,33 @@ impl<'a> Page<'a> {
             self.byte(digit(n % BASE));
         }
     }
+}
+
+// What is written as a text. It is laid on a page piece by piece.
+pub trait Text {
+    ghost text: { Self → List ℕ };
+
+    fn lay(&self, page: &mut Page)
+        ensures { OnPage page.old (text self.now) page.new };
+}
+
+// Writes a text, and answers its length; None, with nothing written, where `out` is shorter. It is measured first, by laying it into no buffer.
+pub fn write<T: Text>(text: &T, out: &mut [u8]) -> Option<usize>
+    ensures { Wrote (T.text text.now) out.old result out.new }
+{
+    let n = laid(text, &mut []);
+    if out.len() < n {
+        return None;
+    }
+    Some(laid(text, out))
+}
+
+fn laid<T: Text>(text: &T, out: &mut [u8]) -> usize
+    ensures { Laid 0 (T.text text.now) out.old result out.new }
+{
+    let mut page = Page::new(out);
+    text.lay(&mut page);
+    page.at
 }
 
 fn digit(d: usize) -> u8

@@ -5,13 +5,12 @@ ghost use Rattle.std.specs.Prelude.{◌≡◌, List};
 ghost use Rattle.task.specs.declared.Task.{Task};
 ghost use Rattle.task.specs.Arrays.{Holds};
 ghost use Rattle.decimal.specs.Bytes.{bytes};
-ghost use Rattle.decimal.specs.Laying.{Laid};
 ghost use Rattle.report.specs.Report.{one};
-ghost use Rattle.text.specs.Reading.{reading, unread, listed};
+ghost use Rattle.text.specs.Reading.{reading, listed};
 ghost use Rattle.output.specs.Output.{Printed, longest_startup, longest_cycle, longest_output};
 
 use answer::IDLE;
-use decimal::Page;
+use decimal::{Page, Text};
 use report::lay;
 use task::Task;
 use text::Listed;
@@ -30,7 +29,7 @@ pub fn answer(input: &[u8], out: &mut [u8]) -> Option<usize>
 {
     match text::read(input) {
         Ok(list) => checked(list, out),
-        Err(unreadable) => unread(unreadable.line, out),
+        Err(unread) => decimal::write(&UnreadLine { line: unread.line }, out),
     }
 }
 
@@ -43,22 +42,18 @@ fn checked(list: Listed, out: &mut [u8]) -> Option<usize>
     report::report(said, &startup, &cycle, out)
 }
 
-fn unread(line: usize, out: &mut [u8]) -> Option<usize>
-    ensures { Printed (unread line) out.old result out.new }
-{
-    let n = laid(line, &mut []);
-    if out.len() < n {
-        return None;
-    }
-    Some(laid(line, out))
+// A line that can't be read, said by its number.
+#[derive(Clone, Copy)]
+struct UnreadLine {
+    line: usize,
 }
 
-fn laid(line: usize, out: &mut [u8]) -> usize
-    ensures { Laid 0 (one (bytes "unread") line) out.old result out.new }
-{
-    let mut page = Page::new(out);
-    lay::line(&mut page, b"unread", &[line]);
-    page.at
+impl Text for UnreadLine {
+    ghost text = { λ u. one (bytes "unread") u.line };
+
+    fn lay(&self, page: &mut Page) {
+        lay::line(page, b"unread", &[self.line]);
+    }
 }
 
 // Ties the lengths to the numbers of specs/.

@@ -1,28 +1,32 @@
-// The lines of a report, laid into a buffer one after the other.
+// The lines of a report, laid on a page one after the other.
 ghost use Rattle.std.specs.Prelude.{◌≡◌, take};
 ghost use Rattle.answer.specs.Answers.{row, feasible};
-ghost use Rattle.decimal.specs.Laying.{Laid, OnPage};
+ghost use Rattle.decimal.specs.Laying.{OnPage};
 ghost use Rattle.report.specs.Report.{line, spaced, table, report};
 
 use answer::{Answer, IDLE, Plan};
-use decimal::Page;
+use decimal::{Page, Text};
 
-pub(crate) fn report(said: Answer, startup: &[u8], cycle: &[u8], out: &mut [u8]) -> usize
-    ensures { Laid 0 (report (row said) startup.now cycle.now) out.old result out.new }
-{
-    let mut page = Page::new(out);
-    answered(&mut page, said, startup, cycle);
-    page.at
+// An answer and the tables that it left, as a text.
+#[derive(Clone, Copy)]
+pub(crate) struct Report<'a> {
+    pub said: Answer,
+    pub startup: &'a [u8],
+    pub cycle: &'a [u8],
 }
 
-fn answered(page: &mut Page, said: Answer, startup: &[u8], cycle: &[u8])
-    ensures { OnPage page.old (report (row said) startup.now cycle.now) page.new }
-{
-    match said {
-        Answer::Feasible(plan) => feasible(page, plan, startup, cycle),
-        Answer::Missed { task, at } => line(page, b"missed", &[task, at]),
-        Answer::Overloaded { load, hyperperiod } => line(page, b"overloaded", &[load, hyperperiod]),
-        Answer::Refused(why, task) => line(page, b"refused", &[why.number(), task]),
+impl<'a> Text for Report<'a> {
+    ghost text = { λ r. report (row r.said) r.startup.now r.cycle.now };
+
+    fn lay(&self, page: &mut Page) {
+        match self.said {
+            Answer::Feasible(plan) => feasible(page, plan, self.startup, self.cycle),
+            Answer::Missed { task, at } => line(page, b"missed", &[task, at]),
+            Answer::Overloaded { load, hyperperiod } => {
+                line(page, b"overloaded", &[load, hyperperiod])
+            }
+            Answer::Refused(why, task) => line(page, b"refused", &[why.number(), task]),
+        }
     }
 }
 

@@ -1,22 +1,27 @@
 -- The writer's answer: the three cases of a refusal, and the text.
 use mathlib.Core.Path.{◌≡◌, refl, ◌∙◌, ap}
-use mathlib.Core.Bool.{true, false}
-use mathlib.Core.List.{List, []}
-use Prim.Native.Nat.{ℕ, ◌≤◌, ◌<◌}
+use mathlib.Core.Bool.{Bool, true, false}
+use mathlib.Core.List.{List}
+use Prim.Native.Nat.{ℕ, ◌≤◌}
 use native.Mathlib.Omega.{arith}
 use lib.ListN.{length, take}
 use lib.Seq.{take_all}
-use borrow.Author.Tests.{lt-ltb, le-ltb}
+use lib.Dec.{ltb}
+use borrow.Author.Tests.{le-ltb}
 use Rattle.card.specs.declared.Card.{Card}
 use Rattle.task.specs.declared.Task.{Task}
 use Rattle.task.specs.declared.list.Tasks.{Tasks}
-use Rattle.task.specs.Limits.{largest, most_tasks}
+use Rattle.task.specs.Limits.{most_tasks}
 use Rattle.task.specs.Arrays.{Holds}
 use Rattle.schedule.specs.declared.Policy.{Policy}
-use Rattle.decimal.specs.Laying.{Laid}
-use Rattle.decimal.proofs.Laying.{laid_whole, is_short, is_room}
-use Rattle.std.specs.Prelude.{Ok, Err}
-use Rattle.writer.specs.Writing.{text, any_large, SavedAs}
+use Rattle.decimal.specs.Laying.{either_way, Wrote}
+use Rattle.std.specs.Prelude.{Option, Result, Err, ok_or}
+use Rattle.writer.specs.declared.Unwritable.{Unwritable}
+use Rattle.writer.specs.Writing.{text, any_large, either, SavedAs}
+
+-- a length, or Unwritable where there is none
+abbrev pub answered : Option ℕ → Result ℕ Unwritable
+answered r = ok_or r (record {})
 
 module _ (c : Card) (p : Policy) (own : Tasks) (l : List Task) (holds : Holds own l) (buffer : List ℕ) where
   module _ (few : own.count ≤ most_tasks) where
@@ -32,25 +37,12 @@ module _ (c : Card) (p : Policy) (own : Tasks) (l : List Task) (holds : Holds ow
         let f : any_large l ≡ true = rw is_list at e in
         simp (le-ltb most_tasks (length l) not_many, f) (record { is_refused = refl; kept = refl })
 
-    module _ (e : any_large (take own.count own.items) ≡ false) (small : length buffer < largest)
-        {n : ℕ} {none : List ℕ} (measured : Laid 0 (text c p (take own.count own.items)) [] n none) where
-      none_large : any_large l ≡ false
-      none_large = rw is_list at e
+    by_room : (r : Option ℕ) (left : List ℕ) (b : Bool) → either_way b (text c p l) buffer r left → either c p l buffer (answered r) left b
+    by_room r left true w = record { is_refused = ap answered w.is_short; kept = w.kept }
+    by_room r left false w = record { is_length = ap answered w.is_length; later_kept = w.later_kept }
 
-      is_measured : Laid 0 (text c p l) [] n none
-      is_measured = rw is_list at measured
-
-      pub saved_short : length buffer < n → SavedAs c p l buffer (Err (record {})) buffer
-      saved_short h =
-          simp
-          (le-ltb most_tasks (length l) not_many, none_large, lt-ltb (length buffer) (length (text c p l)) (is_short buffer small is_measured h))
-          (record { is_refused = refl; kept = refl })
-
-      pub saved_whole : {m : ℕ} {left : List ℕ} → n ≤ length buffer → Laid 0 (text c p (take own.count own.items)) buffer m left
-          → SavedAs c p l buffer (Ok m) left
-      saved_whole h laid =
-          let fits = is_room buffer small is_measured h in
-          let w = laid_whole {text = text c p l} (omega arith) fits (rw is_list at laid) in
-          simp
-          (le-ltb most_tasks (length l) not_many, none_large, le-ltb (length buffer) (length (text c p l)) fits)
-          (record { is_length = ap Ok w.0; later_kept = w.1 })
+    pub saved_wrote : (r : Option ℕ) (left : List ℕ) → any_large (take own.count own.items) ≡ false → Wrote (text c p (take own.count own.items)) buffer r left
+        → SavedAs c p l buffer (answered r) left
+    saved_wrote r left e w =
+        let f : any_large l ≡ false = rw is_list at e in
+        simp (le-ltb most_tasks (length l) not_many, f) (by_room r left (ltb (length buffer) (length (text c p l))) (rw is_list at w))

@@ -1,26 +1,34 @@
-// The text of a policy, a card and a list, laid into a buffer.
+// The text of a policy, a card and a list, laid on a page.
 ghost use Rattle.std.specs.Prelude.{◌≡◌, [], ◌∷◌, ◌++◌};
 ghost use Rattle.decimal.specs.Bytes.{newline};
-ghost use Rattle.decimal.specs.Laying.{Laid, OnPage};
+ghost use Rattle.decimal.specs.Laying.{OnPage};
 ghost use Rattle.line.specs.Kinds.{policy_text};
 ghost use Rattle.writer.specs.Writing.{text, card_line, task_text, field_text, is_large, any_large};
 
 use card::Card;
-use decimal::Page;
+use decimal::{Page, Text};
 use line::LARGEST_NUMBER;
 use schedule::Policy;
 use task::Task;
 
-pub(crate) fn text(tasks: &[Task], card: Card, policy: Policy, out: &mut [u8]) -> usize
-    ensures { Laid 0 (text card policy tasks.now) out.old result out.new }
-{
-    let mut page = Page::new(out);
-    first(&mut page, policy);
-    card_line(&mut page, card);
-    for task in tasks {
-        task_line(&mut page, *task);
+// A policy, a card and a list, as the text that is read again.
+#[derive(Clone, Copy)]
+pub(crate) struct Input<'a> {
+    pub policy: Policy,
+    pub card: Card,
+    pub tasks: &'a [Task],
+}
+
+impl<'a> Text for Input<'a> {
+    ghost text = { λ i. text i.card i.policy i.tasks.now };
+
+    fn lay(&self, page: &mut Page) {
+        first(page, self.policy);
+        card_line(page, self.card);
+        for task in self.tasks {
+            task_line(page, *task);
+        }
     }
-    page.at
 }
 
 fn first(page: &mut Page, policy: Policy)

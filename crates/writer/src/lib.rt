@@ -9,6 +9,7 @@ ghost use Rattle.task.specs.Arrays.{Holds};
 ghost use Rattle.writer.specs.Writing.{SavedAs, saved_number};
 
 use card::Card;
+use lay::Input;
 use schedule::Policy;
 use task::Task;
 use task::list::Tasks;
@@ -37,10 +38,10 @@ pub fn write(list: Tasks, card: Card, policy: Policy, out: &mut [u8]) -> Result<
     if lay::any_large(tasks) {
         return Err(Unwritable);
     }
-    // Measured first, by laying it into no buffer.
-    let n = lay::text(tasks, card, policy, &mut []);
-    if out.len() < n {
-        return Err(Unwritable);
-    }
-    Ok(lay::text(tasks, card, policy, out))
+    let text = Input {
+        policy,
+        card,
+        tasks,
+    };
+    decimal::write(&text, out).ok_or(Unwritable)
 }
