@@ -5,4 +5,4 @@ use Rattle.decimal.proofs.write.Goals as goal
 
 pub returns : goal.returns
 returns g c =
-    wrote_whole c.args.out.now (omega (arith, c.well_formed)) c.laid-n.ensures c.if-out-n.false c.laid.ensures
+    wrote_whole c.args.out.now (omega (arith, c.well_formed)) c.laid-n.ensures (omega arith) c.laid.ensures
