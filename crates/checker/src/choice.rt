@@ -34,7 +34,7 @@ fn pick(jobs: &[Job]) -> Option<usize>
     requires keys_small { (i : ℕ) → i < length jobs.now → IsReady (job_of jobs.now i) → (job_of jobs.now i).key < largest }
     ensures { Found (length jobs.now) result (Picked jobs.now (length jobs.now)) }
 {
-    // A loop, since `filter` with `min_by_key` was tried and took up to a tenth longer with sixteen tasks.
+    // A loop: `filter` with `min_by_key` was tried, and with sixteen tasks took up to a tenth longer than this, which takes no longer than the form before.
     let mut best = None;
     let mut least = usize::MAX;
     for (i, job) in jobs.iter().enumerate() {

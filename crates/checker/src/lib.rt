@@ -21,8 +21,8 @@ use card::Card;
 use schedule::Policy;
 use task::list::Tasks;
 
-// Whether no deadline is ever missed, for all time, and the tables of the schedule. README and the C interface name the two buffers one by one, so they
-// are no struct here either, nor in what this calls.
+// Whether no deadline is ever missed, for all time, and the tables of the schedule. README and the C interface name list, card, policy and the two
+// buffers one by one, so they are no struct here either, nor in what this calls.
 pub fn check(
     list: Tasks,
     card: Card,

@@ -36,6 +36,7 @@ impl Engine<'_> {
         if job.next != t {
             return;
         }
+        // By index, as in `refresh`: no `zip` in `arrive` either.
         let task = self.tasks[i];
         let due = t + task.deadline;
         *job = Job {

@@ -8,7 +8,7 @@ use crate::step::Now;
 use state::Job;
 
 impl Engine<'_> {
-    // The releases at 0, and the task that slot 0 goes to.
+    // The releases at 0, and the task that slot 0 goes to. (Why `Instant` stands in the clauses: engine.rt.)
     pub(crate) fn begin(self, jobs: &mut [Job]) -> Now
         requires not_refused { NotRefused self.tasks.now }
         requires sized { length jobs.old ≡ length self.tasks.now }

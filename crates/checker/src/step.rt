@@ -28,6 +28,7 @@ pub(crate) struct Missed {
 }
 
 impl Engine<'_> {
+    // (Why `Instant` stands in the clauses: engine.rt.)
     pub(crate) fn step(self, jobs: &mut [Job], entry: &mut u8, now: Now) -> Result<Now, Missed>
         requires instant { Found (length self.tasks.now) now.chosen (Instant self.policy self.tasks.now now.instant jobs.old) }
         requires bounds { (now.instant + 1 < plenty) × (now.idle < plenty) × (now.preemptions < plenty) }

@@ -8,7 +8,7 @@ use crate::step::{Missed, Now};
 use state::Job;
 
 impl Engine<'_> {
-    // A slot for each entry of the table, or those before the first miss.
+    // A slot for each entry of the table, or those before the first miss. (Why `Instant` stands in the clauses: engine.rt.)
     pub(crate) fn stretch(
         self,
         jobs: &mut [Job],

@@ -49,7 +49,7 @@ impl Engine<'_> {
         self.stretch(jobs, &mut startup[..count], now)
     }
 
-    // The cycle part: so many slots from where the startup part ends.
+    // The cycle part: so many slots from where the startup part ends. (Why `Instant` stands in the clauses: engine.rt.)
     fn cycle_part(
         self,
         jobs: &mut [Job],

@@ -16,7 +16,7 @@ const CYCLE: usize = Task::LONGEST_HYPERPERIOD;
 // Such a plan takes 782 blocks with its trailer, and the one before it two.
 const ROOM: usize = 784 * format::BLOCK;
 
-// How many bytes are used once a plan is appended, 0 where it is refused.
+// How many bytes are used once a plan is appended, 0 where it is refused: no plan of this program is.
 fn append(log: &mut [u8], used: usize, plan: Plan) -> usize {
     plan_log::append(log, used, plan.startup, plan.cycle).unwrap_or(0)
 }
@@ -28,7 +28,7 @@ fn number_all(entries: &mut [u8], first: usize) {
     }
 }
 
-// What is left once j bytes are written, read for each j from `begun` to the whole.
+// What is left once j bytes are written, read for each j, a length and no index, from `begun` to the whole.
 fn cut(log: &[u8], begun: usize, plan: Plan) -> Tally {
     let mut s = [0u8; STARTUP];
     let mut c = [0u8; CYCLE];
@@ -48,7 +48,7 @@ fn in_log(rt: &impl Print, log: &mut [u8], begun: usize, plan: Plan) -> io::Resu
     println!(rt; "{}", cut(written, begun, plan))
 }
 
-// After each cut another plan is appended and read, and then the first again.
+// After each cut, at j bytes, another plan is appended and read, and then the first again.
 fn again(rt: &impl Print, log: &mut [u8], begun: usize, plan: Plan) -> io::Result<()> {
     let another = Plan {
         startup: b"an",

@@ -9,6 +9,7 @@ pub const BLOCK: usize = 64;
 
 pub const CARRIED: usize = 63;
 
+// Public, so it stays, though no code here needs it: lengths are 16-bit numbers.
 pub const LARGEST: usize = 65535;
 
 pub const PLAN: u8 = 1;

@@ -11,7 +11,7 @@ use schedule::Policy;
 use task::Task;
 use task::list::Tasks;
 
-// As `checker::check`, for a lent list of any length.
+// As `checker::check`, for a lent list of any length, with as many parameters, for the same reason.
 pub fn check(
     list: &[Task],
     card: Card,

@@ -5,6 +5,7 @@ ghost use Rattle.std.specs.Prelude.{◌≡◌};
 ghost use Rattle.answer.specs.Tables.{looked};
 
 // The part of one of the two tables that starts at slot t. Nothing is copied: what is handed back is the caller's own.
+// The paper has the two tables one by one.
 pub fn lookup<'a>(startup: &'a [u8], cycle: &'a [u8], t: usize) -> &'a [u8]
     ensures { result.now ≡ looked startup.now cycle.now t }
 {

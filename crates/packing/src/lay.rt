@@ -4,7 +4,7 @@ ghost use Rattle.format.specs.Blocks.{block_length, carried_length, plan_kind, p
 
 use format::{BLOCK, CARRIED, COUNT_AT, CYCLE_AT, PLAN, REST_AT, STARTUP_AT, TRAILER};
 
-// A plan's two parts.
+// A plan's two parts. Cuts has such a struct of its own: this one is no part of what the crate offers.
 #[derive(Clone, Copy)]
 pub(crate) struct Parts<'a> {
     pub(crate) startup: &'a [u8],

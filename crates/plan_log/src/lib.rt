@@ -1,4 +1,5 @@
-// The log of plans on a card: a plan is appended, and the newest that is fully written is read. Request #104.
+// The log of plans on a card: a plan is appended, and the newest that is fully written is read. Request #104. Log, used count and a plan's two parts come
+// one by one, as README and the C interface name them; so they do in packing and unpacking.
 #![tactic(auto)]
 
 ghost use Rattle.plan_log.specs.Log.{AppendedAs, ReadAs};

@@ -5,6 +5,7 @@ ghost use Rattle.task.specs.Arrays.{blank, fitting, empty, stored, added};
 use crate::Task;
 
 // The count is the list's true length, also where that is more than the array holds, so it stands beside the array, which is of fixed memory.
+// With a count above its room it holds many lists, so no invariant names one, and promises speak of every list that it holds.
 #[derive(Clone, Copy, Debug, PartialEq, Eq)]
 pub struct Tasks {
     pub items: [Task; Task::MOST],

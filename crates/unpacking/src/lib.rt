@@ -34,7 +34,7 @@ impl NoPlan {
     }
 }
 
-// Hands over the plan before the last block of a log, which is a trailer where the log has been cut back.
+// Hands over the plan before the last block of a log, which is a trailer where the log has been cut back. The two buffers come one by one, as in C.
 pub fn plan(log: &[u8], startup: &mut [u8], cycle: &mut [u8]) -> Result<Lengths, NoPlan>
     ensures { ReadOff startup.old cycle.old result startup.new cycle.new (newest.newest_of log.now) }
 {

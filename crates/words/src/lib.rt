@@ -16,7 +16,7 @@ use task::list::Tasks;
 // The code of a call that is not understood; then nothing is written.
 pub const NOT_UNDERSTOOD: u64 = 4;
 
-// Checks a list for a card under a policy, both by number, and gives the answer's code; its values go into `row`.
+// Checks a list for a card under a policy, both by number, and gives the answer's code; its values go into `row`. The parameters are those of C.
 pub fn answered(
     own: Tasks,
     card: u64,
