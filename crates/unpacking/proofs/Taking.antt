@@ -1,9 +1,9 @@
 -- Entries taken from the blocks that carry them: what startup has no room for goes to cycle.
-use Rattle.std.proofs.Common.{◌≡◌, refl, sym, ◌∙◌, ℕ, ◌+◌, ◌-◌, ◌≤◌, min, List, [], ◌++◌, length, take, drop, arith, length-append, length-take, length-drop}
+use Rattle.std.proofs.Common.{◌≡◌, refl, sym, ◌∙◌, ℕ, ◌+◌, ◌-◌, ◌≤◌, min, List, ◌++◌, length, take, drop, arith, length-append, length-take, length-drop}
 use native.Mathlib.Decide.{dec_le}
 use mathlib.Core.List.{append-nil}
 use lib.ListN.{drop_of_length-le}
-use lib.Seq.{take-nil, take_at, drop-append-add, drop-drop}
+use lib.Seq.{take_at, drop-append-add, drop-drop}
 use Rattle.format.proofs.Lists.{take_append, drop_append}
 
 -- src copied into out from its start on, as much as fits
@@ -12,9 +12,6 @@ Filled out src = take (length out) src ++ drop (length src) out
 
 abbrev pub room_used : List ℕ → List ℕ → ℕ
 room_used out src = length (take (length out) src)
-
-pub filled_none : (out : List ℕ) → Filled out [] ≡ out
-filled_none out = rw take-nil
 
 pub filled_all : (out src : List ℕ) → length out ≤ length src → Filled out src ≡ take (length out) src
 filled_all out src h = rw (drop_of_length-le out {i = length src} h) (append-nil (take (length out) src))
