@@ -19,6 +19,7 @@ pub(crate) fn latest(tasks: &[Task]) -> usize
 }
 
 // The least common multiple of all periods. Once it is above the limit it stays there, so the fold ends early.
+#[tactic(auto, using(crate::proofs::Listed::ends_early))]
 pub(crate) fn hyperperiod(tasks: &[Task]) -> Option<usize>
     requires { tasks_refusal Wide 0 tasks.now ≡ sound }
     ensures { result ≡ within longest_hyperperiod (hyperperiod tasks.now) }

@@ -28,10 +28,7 @@ impl<'a> Page<'a> {
     pub fn byte(&mut self, b: u8)
         ensures { OnPage self.old (b ∷ []) self.new }
     {
-        if self.at < self.out.len() {
-            self.out[self.at] = b;
-        }
-        self.at = self.at.saturating_add(1);
+        self.at = byte(self.out, self.at, b);
     }
 
     // A word, byte after byte.
@@ -47,13 +44,30 @@ impl<'a> Page<'a> {
     pub fn number(&mut self, n: usize)
         ensures { OnPage self.old (decimal n) self.new }
     {
-        if n < BASE {
-            self.byte(digit(n));
-        } else {
-            self.number(n / BASE);
-            self.byte(digit(n % BASE));
-        }
+        self.at = number(self.out, self.at, n);
     }
+}
+
+// The same with buffer and place by themselves, for a loop over many bytes: a page is behind a reference, and its place goes through memory
+// with each byte. Each answers the place after what it lays.
+pub fn byte(out: &mut [u8], at: usize, b: u8) -> usize
+    ensures { Laid at (b ∷ []) out.old result out.new }
+{
+    if out.len() <= at {
+        return at.saturating_add(1);
+    }
+    out[at] = b;
+    at + 1
+}
+
+pub fn number(out: &mut [u8], at: usize, n: usize) -> usize
+    ensures { Laid at (decimal n) out.old result out.new }
+{
+    if n < BASE {
+        return byte(out, at, digit(n));
+    }
+    let next = number(out, at, n / BASE);
+    byte(out, next, digit(n % BASE))
 }
 
 // What is written as a text. It is laid on a page piece by piece.

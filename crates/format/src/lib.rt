@@ -36,7 +36,10 @@ pub fn blocks_for(entries: usize) -> usize
 pub fn kept(log: &[u8]) -> usize
     ensures { result ≡ length (kept log.now) }
 {
-    log.chunks_exact(BLOCK)
+    // No `chunks_exact`: from its end it works out a remainder for each block.
+    let (blocks, _) = log.as_chunks::<BLOCK>();
+    blocks
+        .iter()
         .rposition(|block| block[0] == TRAILER)
         .map_or(0, |n| BLOCK * (n + 1))
 }

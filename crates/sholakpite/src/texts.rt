@@ -19,10 +19,10 @@ pub extern "C" fn sholakpite_answer(input: &[u8], out: &mut [u8]) -> u64
 pub extern "C" fn sholakpite_write_card(card: u64, policy: u64, list: &[u64], out: &mut [u8]) -> u64
     ensures { WrittenText card policy list.now out.old result out.new }
 {
-    let Some(own) = whole(list) else {
+    let Some((card, policy)) = understood(card, policy) else {
         return NOT_UNDERSTOOD;
     };
-    let Some((card, policy)) = understood(card, policy) else {
+    let Some(own) = whole(list) else {
         return NOT_UNDERSTOOD;
     };
     match writer::write(own, card, policy, out) {

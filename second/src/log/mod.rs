@@ -35,10 +35,15 @@ impl Log {
     }
 }
 
-/// Which whole block is the last trailer, whatever its rest holds.
+/// Which whole block is the last trailer, whatever its rest holds: each block is looked at, from the first on.
 pub fn last_trailer(log: &[u8]) -> Option<usize> {
-    log.chunks_exact(BLOCK)
-        .rposition(|block| block[0] == TRAILER)
+    let mut last = None;
+    for (at, block) in log.chunks_exact(BLOCK).enumerate() {
+        if block[0] == TRAILER {
+            last = Some(at);
+        }
+    }
+    last
 }
 
 /// These bytes, and 0 up to the block's end.

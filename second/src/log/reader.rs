@@ -41,7 +41,7 @@ pub fn find(log: &[u8]) -> Found {
     let (kinds, mut carried) = opened(covered);
     let pads = carried.split_off(carried.len().min(startup + cycle));
     let reasons = [
-        count != (startup + cycle).div_ceil(CARRIED),
+        count != blocks_of(startup + cycle),
         count > at,
         kinds.iter().any(|&kind| kind != PLAN),
         pads.iter().any(|&byte| byte != 0),
@@ -55,17 +55,27 @@ pub fn find(log: &[u8]) -> Found {
     Found::Newest(Plan { startup, cycle })
 }
 
+/// How many blocks so many entries take: a new one begins at every 63rd entry.
+fn blocks_of(entries: usize) -> usize {
+    (0..entries).step_by(CARRIED).count()
+}
+
 /// The three numbers at the front of these bytes, low byte first.
 fn numbers(bytes: &[u8]) -> [usize; 3] {
     [0, 2, 4].map(|at| usize::from(bytes[at]) + 256 * usize::from(bytes[at + 1]))
 }
 
-/// The first bytes of some blocks, and all their other bytes in a row.
+/// The first bytes of some blocks, and all their other bytes in a row, byte by byte.
 fn opened(blocks: &[u8]) -> (Vec<u8>, Vec<u8>) {
-    let blocks = blocks.chunks_exact(BLOCK);
-    let kinds = blocks.clone().map(|block| block[0]).collect();
-    let rest: Vec<&[u8]> = blocks.map(|block| &block[1..]).collect();
-    (kinds, rest.concat())
+    let mut kinds = Vec::new();
+    let mut rest = Vec::new();
+    for (at, &byte) in blocks.iter().enumerate() {
+        match at % BLOCK {
+            0 => kinds.push(byte),
+            _ => rest.push(byte),
+        }
+    }
+    (kinds, rest)
 }
 
 #[cfg(test)]

@@ -28,7 +28,10 @@ pub fn append(buffer: &mut [u8], used: u64, plan: &Plan) -> Result<usize, Refuse
 
 /// Just after the last trailer, or the front where there is none.
 pub fn end_of_last_plan(log: &[u8]) -> usize {
-    last_trailer(log).map_or(0, |at| BLOCK * (at + 1))
+    match last_trailer(log) {
+        Some(at) => BLOCK * at + BLOCK,
+        None => 0,
+    }
 }
 
 /// The bytes of a plan and its trailer; of a length that is too large the trailer has the low 16 bits.
@@ -48,7 +51,12 @@ pub fn written(plan: &Plan) -> Vec<u8> {
 
 /// A trailer with these three numbers.
 pub fn trailer(numbers: [usize; 3]) -> Vec<u8> {
-    block(TRAILER, &numbers.map(|n| (n as u16).to_le_bytes()).concat())
+    block(
+        TRAILER,
+        &numbers
+            .map(|n| [n, n / 256].map(|half| half as u8))
+            .concat(),
+    )
 }
 
 fn block(kind: u8, front: &[u8]) -> Vec<u8> {

@@ -27,8 +27,8 @@ pub fn read(text: &[u8]) -> Result<Told, u64> {
     if text.len() > LONGEST_INPUT {
         return Err(0);
     }
-    let lines = text.split_inclusive(|&byte| byte == b'\n');
-    let mut lines = (1_u64..).zip(lines).peekable();
+    let lines = lines_of(text);
+    let mut lines = (1_u64..).zip(lines.iter().map(Vec::as_slice)).peekable();
     // Where there is no line at all, line 1 is the one that is missing.
     let first = lines.next().ok_or(1_u64)?;
     let policy = policy(first.1).ok_or(first.0)?;
@@ -46,6 +46,22 @@ pub fn read(text: &[u8]) -> Result<Told, u64> {
         policy,
         tasks,
     })
+}
+
+/// Each line with its newline, byte by byte; what is behind the last newline is a line too.
+fn lines_of(text: &[u8]) -> Vec<Vec<u8>> {
+    let mut lines = Vec::new();
+    let mut line = Vec::new();
+    for &byte in text {
+        line.push(byte);
+        if byte == b'\n' {
+            lines.push(std::mem::take(&mut line));
+        }
+    }
+    if !line.is_empty() {
+        lines.push(line);
+    }
+    lines
 }
 
 fn policy(line: &[u8]) -> Option<u64> {

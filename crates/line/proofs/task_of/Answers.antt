@@ -1,6 +1,7 @@
 -- `task_of` meets its contract: the word, then field after field.
 use mathlib.Core.Path.{sym, ◌∙◌, ap}
-use Rattle.std.specs.Prelude.{Some}
+use native.Mathlib.Omega.{arith}
+use Rattle.std.specs.Prelude.{Some, length, ◌≤◌, ◌<◌}
 use Rattle.decimal.specs.Bytes.{space}
 use Rattle.line.proofs.Places.{until_taken}
 use Rattle.line.proofs.Fields.{line_not, no_offset, no_run, no_deadline, no_period, period_read, last_none, last_more}
@@ -43,7 +44,8 @@ returns-then-period-line c =
     let task = sym c.same.ensures ∙ c.if-not-same.false in
     let q = period_read line _ c.before-word.ensures task _ c.in_ok-offset.ensures _ c.in_ok-run.ensures _ c.in_ok-deadline.ensures
     _ c.in_ok-period.ensures in
-    sym (q ∙ last_more _ _ _ c.if-period-line.true)
+    let more : c.in_ok-period.period.end < length line = omega arith in
+    sym (q ∙ last_more _ _ _ more)
 
 pub returns : goal.returns
 returns c =
@@ -51,4 +53,5 @@ returns c =
     let task = sym c.same.ensures ∙ c.if-not-same.false in
     let q = period_read line _ c.before-word.ensures task _ c.in_ok-offset.ensures _ c.in_ok-run.ensures _ c.in_ok-deadline.ensures
     _ c.in_ok-period.ensures in
-    ap Some c.new.ensures ∙ sym (q ∙ last_none _ _ _ c.if-period-line.false)
+    let no_more : length line ≤ c.in_ok-period.period.end = omega arith in
+    ap Some c.new.ensures ∙ sym (q ∙ last_none _ _ _ no_more)

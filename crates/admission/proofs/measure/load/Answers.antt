@@ -1,5 +1,6 @@
 -- `measure::load` meets its contract: no task wants more than `whole`, so the sum fits.
-use Rattle.std.proofs.Common.{◌∙◌, length, rules, tests, arith}
+use Rattle.std.proofs.Common.{◌≡◌, length, rules, tests, arith}
+use Rattle.std.specs.List.{sum_by}
 use Rattle.std.proofs.lemmas.Iterator.{YieldsList-from_slice, YieldsList-from_map}
 use Rattle.std.proofs.lemmas.Iterator.Consumers.{sum_by_from_yields_List, fits_by_from_yields_list}
 use Rattle.std.proofs.lemmas.Iterator.Adapters.{serves_from_places}
@@ -26,6 +27,7 @@ pub returns : goal.returns
 returns c =
     let l = c.args.tasks.now in
     let H = c.args.whole in
+    let summed : c.sum.result ≡ sum_by (wanted H) l =
     sum_by_from_yields_List (wanted H) l c.map.result _ c.sum.ensures.ran
-    (YieldsList-from_map _ (wanted H) (YieldsList-from_slice l cc) c.map.ensures.closure (λ x b q k. search (rules, tests)))
-    ∙ load_sum l H
+    (YieldsList-from_map _ (wanted H) (YieldsList-from_slice l cc) c.map.ensures.closure (λ x b q k. search (rules, tests))) in
+    omega (arith, summed, load_sum l H)

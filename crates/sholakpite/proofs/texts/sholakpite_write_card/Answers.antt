@@ -9,13 +9,13 @@ use Rattle.sholakpite.proofs.texts.sholakpite_write_card.Goals as goal
 pub returns-in-Ok : goal.returns-in-Ok
 returns-in-Ok c =
     let l = tasks_of c.args.list.now in
-    let none = whole_is c.args.list.now c.in-Some.own c.in-Some.ensures in
+    let none = whole_is c.args.list.now c.in-Some-whole.own c.in-Some-whole.ensures in
     let w = c.in-Ok.ensures l (rw none.1 (held_array l)) in
     grind (arith, common_steps)
 
 pub returns-in-Err : goal.returns-in-Err
 returns-in-Err c =
     let l = tasks_of c.args.list.now in
-    let none = whole_is c.args.list.now c.in-Some.own c.in-Some.ensures in
+    let none = whole_is c.args.list.now c.in-Some-whole.own c.in-Some-whole.ensures in
     let w = c.in-Err.ensures l (rw none.1 (held_array l)) in
     grind (arith, common_steps)
