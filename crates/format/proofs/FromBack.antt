@@ -1,8 +1,8 @@
 -- A log's blocks looked at from the last one back, until one is a trailer.
-use Rattle.std.proofs.Common.{◌≡◌, refl, sym, ◌∙◌, ap, Bool, true, false, cond, ℕ, zero, suc, ◌+◌, ◌*◌, ◌<◌, List, [], ◌∷◌, ◌++◌, length, take, drop, get_or, subst, arith}
+use Rattle.std.proofs.Common.{◌≡◌, refl, sym, ◌∙◌, ap, Bool, true, false, cond, ℕ, zero, suc, ◌+◌, ◌*◌, ◌<◌, List, [], ◌∷◌, ◌++◌, length, drop, get_or, subst, arith}
 use borrow.Author.Tests.{ne_eqb}
 use lib.Dec.{eqb}
-use lib.Seq.{get_or-drop}
+use lib.Seq.{get_or-drop, get_or-take}
 use lib.ListN.{get_or-append}
 use denote.Ref.{Bor}
 use Rattle.std.proofs.lemmas.List.{length_push, get_or_push}
@@ -23,13 +23,9 @@ module _ (log : List ℕ) where
   Alike blocks = (i : ℕ) → i < length blocks → get_or (get_or blocks i []) 0 0 ≡ get_or log (64 * i) 0
 
 -- so have those that a log is cut into
-first_byte : (xs : List ℕ) → get_or (take 64 xs) 0 0 ≡ get_or xs 0 0
-first_byte [] = refl
-first_byte (x ∷ xs) = refl
-
 pub chunks_alike : (k : ℕ) (log : List ℕ) (i : ℕ) → i < k → get_or (get_or (first_chunks 64 k log) i []) 0 0 ≡ get_or log (64 * i) 0
 chunks_alike zero log i h = absurd (omega arith)
-chunks_alike (suc k) log zero h = first_byte log
+chunks_alike (suc k) log zero h = get_or-take 64 log 0 0 (omega arith)
 chunks_alike (suc k) log (suc i) h =
     let e : 64 * suc i ≡ 64 + 64 * i = omega arith in
     rw e (chunks_alike k (drop 64 log) i (omega arith) ∙ get_or-drop 64 log (64 * i) 0)

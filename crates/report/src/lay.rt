@@ -67,7 +67,7 @@ fn table(page: &mut Page, name: &[u8], slots: &[u8])
     page.at = entries(page.out, page.at, slots);
 }
 
-// The entries of a table, and the newline. Buffer and place by themselves: behind the page's reference a long table takes half as long again.
+// The entries of a table, and the newline, with buffer and place by themselves: behind the page's reference the place goes through memory with each byte.
 fn entries(out: &mut [u8], at: usize, slots: &[u8]) -> usize
     ensures { Laid at (slots_text slots.now) out.old result out.new }
 {
