@@ -2,13 +2,13 @@
 use mathlib.Core.Path.{◌≡◌, refl, sym, ◌∙◌, ap}
 use mathlib.Core.Bool.{Bool, true, false, cond}
 use mathlib.Core.List.{List, ◌++◌}
-use Prim.Native.Nat.{ℕ, zero, suc, ◌+◌, ◌*◌, ◌≤◌, ◌<◌}
+use Prim.Native.Nat.{ℕ, zero, suc, ◌+◌, ◌-◌, ◌*◌, ◌≤◌, ◌<◌}
 use native.Mathlib.Nat.{add-zero, add-suc}
 use native.Mathlib.Omega.{arith}
 use lib.Dec.{eqb}
 use lib.ListN.{length, take, get_or, length-append, length-take, get_or-append}
 use lib.Seq.{length-take-le, take-take, take_all, take_at, get_or-take, get_or-append-add}
-use borrow.Author.Tests.{eq-eqb}
+use borrow.Author.Tests.{eq-eqb, ne_eqb}
 use Rattle.format.specs.Newest.{blocks_kept, whole_blocks, kept}
 
 kept_le : (log : List ℕ) (n : ℕ) → blocks_kept log n ≤ n
@@ -30,7 +30,7 @@ kept_again log (suc n) = go (eqb (get_or log (64 * n) 0) 2) refl (kept_again log
     go false e h = h
 
 -- only kinds matter
-pub kept_alike : (a b : List ℕ) (n : ℕ) → ((i : ℕ) → i < n → get_or a (64 * i) 0 ≡ get_or b (64 * i) 0) → blocks_kept a n ≡ blocks_kept b n
+kept_alike : (a b : List ℕ) (n : ℕ) → ((i : ℕ) → i < n → get_or a (64 * i) 0 ≡ get_or b (64 * i) 0) → blocks_kept a n ≡ blocks_kept b n
 kept_alike a b zero h = refl
 kept_alike a b (suc n) h = rw (h n (omega arith), kept_alike a b n (λ i q. h i (omega arith)))
 
@@ -38,6 +38,22 @@ kept_alike a b (suc n) h = rw (h n (omega arith), kept_alike a b n (λ i q. h i 
 kept_over : (log : List ℕ) (m n : ℕ) → ((i : ℕ) → i < n → eqb (get_or log (64 * (m + i)) 0) 2 ≡ false) → blocks_kept log (m + n) ≡ blocks_kept log m
 kept_over log m zero h = rw add-zero
 kept_over log m (suc n) h = rw (add-suc, h n (omega arith)) (kept_over log m n (λ i q. h i (omega arith)))
+
+-- the last of n blocks is a trailer: all are kept
+pub kept_trailer : (log : List ℕ) (n : ℕ) → 0 < n → get_or log (64 * (n - 1)) 0 ≡ 2 → blocks_kept log n ≡ n
+kept_trailer log zero h e = absurd (omega arith)
+kept_trailer log (suc n) h e =
+    let q : suc n - 1 ≡ n = omega arith in
+    let t : get_or log (64 * n) 0 ≡ 2 = rw q at e in
+    rw t
+
+-- it is none: one block further back
+pub kept_other : (log : List ℕ) (n : ℕ) → 0 < n → (get_or log (64 * (n - 1)) 0 ≡ 2 → ⊥) → blocks_kept log (n - 1) ≡ blocks_kept log n
+kept_other log zero h e = absurd (omega arith)
+kept_other log (suc n) h e =
+    let q : suc n - 1 ≡ n = omega arith in
+    let t : eqb (get_or log (64 * n) 0) 2 ≡ false = ne_eqb (get_or log (64 * n) 0) 2 (rw q at e) in
+    rw (q, t)
 
 module _ (log : List ℕ) where
   kept_fits : 64 * blocks_kept log (whole_blocks log) ≤ length log
